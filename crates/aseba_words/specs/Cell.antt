@@ -1,5 +1,5 @@
 -- The arithmetic of cells, on whole numbers. A cell holds a whole number from -32768 to 32767.
-use Rattle.std.specs.Prelude.{ℕ, ◌^◌, Bool, true, false, ◌&&◌, ◌||◌, not, Option, Some, None, ℤ, pos, negsuc, neg_ℤ, ◌+ℤ◌, ◌-ℤ◌, ◌*ℤ◌, unsigned_abs, int_lt, int_div, int_rem, if◌then◌else◌}
+use Rattle.std.specs.Prelude.{◌≡◌, ℕ, ◌*◌, ◌^◌, Bool, ◌&&◌, ◌||◌, not, Option, Some, None, ℤ, pos, neg_ℤ, ◌+ℤ◌, ◌-ℤ◌, ◌*ℤ◌, unsigned_abs, ◌≤ℤ◌, int_lt, int_div, int_rem, if◌then◌else◌}
 use Rattle.std.specs.Int.{w16, int_wrap, int_rem_euclid, int_div_euclid, int_bit_or, int_bit_xor, int_bit_and}
 use Rattle.std.specs.Ordering.{int_eq}
 use Rattle.aseba_words.specs.declared.operators.Unary.{Unary}
@@ -10,6 +10,12 @@ use Rattle.aseba_words.specs.declared.operators.Binary.TheVariants.{Shl, Shr, Ad
 -- the cell that differs from the number by a multiple of 65536
 abbrev pub wrapped : ℤ → ℤ
 wrapped v = int_wrap w16 v
+
+-- A number's cell lies from -32768 to 32767, and differs from the number by whole turns of 65536. There is one such cell.
+pub record IsWrapOf (v cell : ℤ) : Type 0 where
+  pub low : neg_ℤ (pos 32768) ≤ℤ cell
+  pub high : cell ≤ℤ pos 32767
+  pub turns : (up : ℕ) × (down : ℕ) × (cell +ℤ pos (65536 * up) ≡ v +ℤ pos (65536 * down))
 
 -- 1 for true and 0 for false
 abbrev pub truth : Bool → ℤ

@@ -1,5 +1,5 @@
 -- The numbers of the operators in instruction words.
-use Rattle.std.specs.Prelude.{ℕ, Option, Some, None, slice_get, List, [], ◌∷◌}
+use Rattle.std.specs.Prelude.{ℕ, Option, slice_get, List, [], ◌∷◌}
 use Rattle.aseba_words.specs.declared.operators.Unary.{Unary}
 use Rattle.aseba_words.specs.declared.operators.Unary.TheVariants.{Minus, Abs, BitNot, Not}
 use Rattle.aseba_words.specs.declared.operators.Binary.{Binary}

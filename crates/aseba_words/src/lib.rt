@@ -13,3 +13,6 @@ pub use list::List;
 pub use mem::Mem;
 pub use name::Name;
 pub use operators::{Binary, Unary};
+
+#[cfg(test)]
+mod tests;

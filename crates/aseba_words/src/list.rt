@@ -1,9 +1,8 @@
 ghost use Rattle.std.specs.Prelude.{◌≡◌, [], ◌∷◌, ◌++◌, length, IfErr, IfOk, OnOk, OnErr};
 
+use crate::mem::Mem;
 use std::alloc::Global;
 use std::marker::Model;
-
-use crate::mem::Mem;
 
 /// A `Vec` that contracts see as the list of its elements, so that a copy equals what it copies.
 /// A type may hold itself through it.

@@ -1,9 +1,9 @@
 ghost use Rattle.std.specs.Prelude.{◌≡◌, IfOk};
 
-use std::alloc::Global;
-use std::marker::Model;
-
 use crate::mem::Mem;
+use std::alloc::Global;
+use std::hash::{Hash, Hasher};
+use std::marker::Model;
 
 /// A name or a text, as bytes that contracts see as a list.
 #[derive(Debug, Drop)]
@@ -17,6 +17,42 @@ impl Model for Name {
     ghost Value = { List ℕ };
 
     ghost view = { λ name. name.bytes.items };
+}
+
+impl PartialEq for Name {
+    ghost use Rattle.std.specs.Prelude.{nat_eq};
+    ghost use Rattle.std.specs.Cmp.Lexicographic.{pointwise};
+    ghost use Rattle.std.proofs.Common.{rules};
+    ghost use Rattle.std.specs.Cmp.Rules.{comparing};
+
+    ghost eq = { λ a b. pointwise nat_eq a b };
+
+    ghost laws = { Prim.search (comparing, rules) };
+
+    fn eq(&self, other: &Name) -> bool {
+        self.as_bytes() == other.as_bytes()
+    }
+}
+
+impl Eq for Name {
+    ghost use Rattle.std.proofs.Common.{rules};
+    ghost use Rattle.std.specs.Cmp.Rules.{comparing};
+
+    ghost laws = { Prim.search (comparing, rules) };
+}
+
+impl Hash for Name {
+    ghost use Rattle.std.proofs.Common.{rules};
+    ghost use Rattle.std.specs.Hash as fed;
+    ghost use Rattle.std.specs.Cmp.Rules.{hashing};
+
+    ghost hash_input = { λ a. fed.slice fed.u8 a };
+
+    ghost respects_eq = { Prim.search (hashing, rules) };
+
+    fn hash<H: Hasher>(&self, state: &mut H) {
+        self.as_bytes().hash(state);
+    }
 }
 
 impl Name {
