@@ -1,0 +1,5 @@
+pub mod Command
+pub mod DefaultNode
+pub mod SimText
+pub mod StatusText
+pub mod Words

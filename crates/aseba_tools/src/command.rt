@@ -1,0 +1,44 @@
+ghost use Rattle.std.specs.Prelude.{map, string_bytes, MatchOption};
+ghost use Rattle.aseba_tools.specs.Command.{IsSim, IsNoSim, IsTicks, IsNoTicks};
+
+/// The greatest number of ticks that may be asked for.
+const MOST_TICKS: u32 = 100_000_000;
+
+/// `sim default SOURCE TICKS`: run a source on the default node.
+pub struct SimCommand<'a> {
+    /// The name of the source's file.
+    pub source: &'a str,
+    pub ticks: u32,
+}
+
+/// The command that the words are, if they are one.
+pub fn sim_command(words: &[String]) -> Option<SimCommand<'_>>
+    ensures { MatchOption result (IsNoSim (map string_bytes words.now)) (λ c. IsSim (map string_bytes words.now) c.source.now c.ticks) }
+{
+    let [tool, project, source, ticks] = words else {
+        return None;
+    };
+    if tool.as_str() != "sim" || project.as_str() != "default" {
+        return None;
+    }
+    match number_of_ticks(ticks.as_str()) {
+        Some(ticks) => Some(SimCommand {
+            source: source.as_str(),
+            ticks,
+        }),
+        None => None,
+    }
+}
+
+/// A number of ticks: one or more decimal digits and nothing else.
+fn number_of_ticks(word: &str) -> Option<u32>
+    ensures { MatchOption result (IsNoTicks word.now) (IsTicks word.now) }
+{
+    if word.starts_with('+') {
+        return None;
+    }
+    match word.parse::<u32>() {
+        Ok(ticks) if ticks <= MOST_TICKS => Some(ticks),
+        _ => None,
+    }
+}

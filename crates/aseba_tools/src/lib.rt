@@ -1,0 +1,13 @@
+//! All that the program `aseba` does, as one call over the objects of the outside.
+#![tactic(auto)]
+
+mod command;
+mod early;
+mod lines;
+mod node;
+mod refusal;
+mod status;
+mod text;
+
+pub use refusal::Refusal;
+pub use status::Status;

@@ -1,0 +1,150 @@
+//! The lines that a run tells, each as a text with its line end.
+
+ghost use Rattle.std.specs.Prelude.{◌≡◌, ◌∷◌, [], ◌++◌, map, take, drop, decimal, codes, IfOk, OnOk};
+ghost use Rattle.std.specs.Fmt.{signed_decimal};
+ghost use Rattle.aseba_tree.specs.Line.{blank_number, blank_cells, event_text, lines_text, told, sent, bounds, division, var, end};
+ghost use Rattle.aseba_vm.specs.declared.tick.Tick.TheVariants.{Sent};
+ghost use Rattle.aseba_codegen.specs.Table.{event_of, tick_reports};
+ghost use Rattle.aseba_tools.specs.DefaultNode.{default_project};
+ghost use Rattle.aseba_tools.specs.Words.{code_text};
+
+use std::alloc::Global;
+
+use aseba_vm::Notice;
+use aseba_words::Mem;
+
+use crate::early::Placed;
+use crate::node;
+use crate::text::Text;
+
+/// When something happens in a run: after so many ticks, and with so many effects.
+#[derive(Clone, Copy, Debug)]
+pub struct Moment {
+    pub ticks: u64,
+    pub effects: u64,
+}
+
+/// The line of a program's words.
+pub fn code_line(alloc: Global, words: &[u16]) -> Result<Text, Mem>
+    ensures { IfOk result (λ text. text ≡ code_text words.now) }
+{
+    let mut text = Text::new(alloc);
+    text.push(b"code")?;
+    text.push_words(words)?;
+    text.push(b"\n")?;
+    Ok(text)
+}
+
+/// The line of a notice. A node error has none.
+pub fn notice_line(alloc: Global, moment: Moment, notice: Notice, cells: &[i16]) -> Result<Text, Mem>
+    ensures { IfOk result (λ text. text ≡ lines_text (map (told moment.ticks moment.effects) (tick_reports default_project cells.now (Sent notice)))) }
+{
+    match notice {
+        Notice::Emit { event, start, len } => emit_line(alloc, moment, event, part(cells, start, len)),
+        Notice::Bounds { pc, size, index } => bounds_line(alloc, moment, pc, size, index),
+        Notice::Division { pc } => division_line(alloc, moment, pc),
+        Notice::NodeError { .. } => Ok(Text::new(alloc)),
+    }
+}
+
+/// The line of a variable with its cells.
+pub fn var_line(alloc: Global, variable: &Placed, cells: &[i16]) -> Result<Text, Mem>
+    ensures { IfOk result (λ text. text ≡ lines_text (var variable.now.name (take variable.now.size (drop variable.now.start cells.now)) ∷ [])) }
+{
+    let mut text = Text::new(alloc);
+    text.push(b"var ")?;
+    text.push(variable.name.as_bytes())?;
+    text.push_cells(part(cells, variable.start, variable.size))?;
+    text.push(b"\n")?;
+    Ok(text)
+}
+
+/// The last line.
+pub fn end_line(alloc: Global, moment: Moment) -> Result<Text, Mem>
+    ensures { IfOk result (λ text. text ≡ lines_text (end moment.ticks moment.effects ∷ [])) }
+{
+    let mut text = Text::new(alloc);
+    text.push(b"end ")?;
+    text.push_number(moment.ticks)?;
+    text.push(b" ")?;
+    text.push_number(moment.effects)?;
+    text.push(b"\n")?;
+    Ok(text)
+}
+
+fn emit_line(alloc: Global, moment: Moment, event: u16, cells: &[i16]) -> Result<Text, Mem>
+    ensures { IfOk result (λ text. text ≡ lines_text (told moment.ticks moment.effects (sent (event_of default_project event) cells.now) ∷ [])) }
+{
+    let mut text = moment_text(alloc, moment)?;
+    text.push(b"emit ")?;
+    push_event(&mut text, event)?;
+    text.push_cells(cells)?;
+    text.push(b"\n")?;
+    Ok(text)
+}
+
+fn bounds_line(alloc: Global, moment: Moment, pc: u16, size: u16, index: i16) -> Result<Text, Mem>
+    ensures { IfOk result (λ text. text ≡ lines_text (told moment.ticks moment.effects (bounds pc size index) ∷ [])) }
+{
+    let mut text = moment_text(alloc, moment)?;
+    text.push(b"bounds ")?;
+    push_bounds(&mut text, pc, size, index)?;
+    text.push(b"\n")?;
+    Ok(text)
+}
+
+/// Adds where an index was out of bounds, the size and the index.
+fn push_bounds(text: &mut Text, pc: u16, size: u16, index: i16) -> Result<(), Mem>
+    ensures { OnOk result (text.new ≡ text.old ++ (decimal pc ++ blank_number size ++ codes " " ++ signed_decimal index)) }
+{
+    text.push_number(u64::from(pc))?;
+    text.push(b" ")?;
+    text.push_number(u64::from(size))?;
+    text.push(b" ")?;
+    text.push_cell(index)
+}
+
+fn division_line(alloc: Global, moment: Moment, pc: u16) -> Result<Text, Mem>
+    ensures { IfOk result (λ text. text ≡ lines_text (told moment.ticks moment.effects (division pc) ∷ [])) }
+{
+    let mut text = moment_text(alloc, moment)?;
+    text.push(b"division ")?;
+    text.push_number(u64::from(pc))?;
+    text.push(b"\n")?;
+    Ok(text)
+}
+
+/// The beginning of a line that tells what happened at a moment.
+fn moment_text(alloc: Global, moment: Moment) -> Result<Text, Mem>
+    ensures { IfOk result (λ text. text ≡ decimal moment.ticks ++ blank_number moment.effects ++ codes " ") }
+{
+    let mut text = Text::new(alloc);
+    text.push_number(moment.ticks)?;
+    text.push(b" ")?;
+    text.push_number(moment.effects)?;
+    text.push(b" ")?;
+    Ok(text)
+}
+
+/// Adds the name of an event, or its number where the project doesn't have it.
+#[tactic(auto, unfolding(crate::specs::DefaultNode::default_project))]
+fn push_event(text: &mut Text, event: u16) -> Result<(), Mem>
+    ensures { OnOk result (text.new ≡ text.old ++ event_text (event_of default_project event)) }
+{
+    match event {
+        0 => text.push(b"ping"),
+        1 => text.push(b"pong"),
+        2 => text.push(b"pair"),
+        number => text.push_number(u64::from(number)),
+    }
+}
+
+/// The cells from a start on, as many as there are up to a number.
+fn part(cells: &[i16], start: u16, size: u16) -> &[i16]
+    ensures { result.now ≡ take size (drop start cells.now) }
+{
+    let start = usize::from(start).min(cells.len());
+    let rest = &cells[start..];
+    let size = usize::from(size).min(rest.len());
+    &rest[..size]
+}
