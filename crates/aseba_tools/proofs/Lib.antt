@@ -1,1 +1,4 @@
 pub mod CommandLemmas
+pub mod Running
+pub mod Variables
+pub mod Writing

@@ -1,21 +1,40 @@
 -- What `sim` writes.
-use Rattle.std.specs.Prelude.{ℕ, ◌+◌, ◌++◌, List, [], map, length, sum_by}
-use Rattle.aseba_tree.specs.Code.{Project, Name}
+use Rattle.std.specs.Prelude.{◌≡◌, ℕ, ◌+◌, ◌++◌, List, [], map, length}
 use Rattle.aseba_tree.specs.Line.{lines_text}
+use Rattle.aseba_vm.specs.State.{State}
 use Rattle.aseba_codegen.specs.Layout.{Placed, placed, Layout, all_cells}
-use Rattle.aseba_codegen.specs.Table.{table_lines}
+use Rattle.aseba_codegen.specs.Table.{Run, ticking, all_ticking, beginning, table_lines}
 use Rattle.aseba_tools.specs.DefaultNode.{default_project, default_variables}
 use Rattle.aseba_tools.specs.Words.{code_text}
-use Rattle.aseba_tools.specs.declared.early.program.Placed.{Placed as OwnPlaced}
+use Rattle.aseba_tools.specs.declared.early.program.Variable.{Variable}
+use Rattle.aseba_tools.specs.declared.lines.Moment.{Moment}
 
--- a variable as the layout has it
-abbrev pub place_of : OwnPlaced → Placed
-place_of v = record { name = v.name; start = v.start; size = v.size }
+-- a variable as the layout has it: it has one cell
+abbrev pub place_of : Variable → Placed
+place_of v = record { name = v.name; start = v.address; size = 1 }
 
 -- the layout of a program with these variables on the default node
-abbrev pub layout_with : List Placed → Layout
-layout_with own = record { node = placed 0 default_variables; own = own; cells = all_cells default_variables + sum_by (λ v. v.size) own }
+abbrev pub layout_with : List Variable → Layout
+layout_with own = record { node = placed 0 default_variables; own = map place_of own; cells = all_cells default_variables + length own }
 
 -- the line of the words, and then the lines of the machine's run of them
-abbrev pub sim_text : List ℕ → List Placed → ℕ → List ℕ
+abbrev pub sim_text : List ℕ → List Variable → ℕ → List ℕ
 sim_text words own ticks = code_text words ++ lines_text (table_lines default_project (layout_with own) words [] ticks)
+
+-- a run that has told nothing yet, at a moment
+abbrev pub silent : Moment → State → Run
+silent moment machine = record { ticks = moment.ticks; effects = moment.effects; machine = machine; lines = [] }
+
+-- that run after a tick
+abbrev pub after_tick : Layout → Moment → State → Run
+after_tick layout moment machine = ticking default_project layout [] (silent moment machine)
+
+-- a run is at this moment, with this machine
+pub record IsAt (run : Run) (moment : Moment) (machine : State) : Type 0 where
+  pub ticks : run.ticks ≡ moment.ticks
+  pub effects : run.effects ≡ moment.effects
+  pub machine_is : run.machine ≡ machine
+
+-- the run of so many ticks of a machine, with these variables
+abbrev pub ticks_of : List Variable → ℕ → State → Run
+ticks_of own ticks machine = all_ticking default_project (layout_with own) [] ticks (beginning machine)

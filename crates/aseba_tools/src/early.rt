@@ -7,4 +7,4 @@ mod program;
 mod scanner;
 
 pub use compiler::compile;
-pub use program::{Placed, Program};
+pub use program::{NotCompiled, Program, Variable};

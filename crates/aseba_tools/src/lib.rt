@@ -6,6 +6,7 @@ mod early;
 mod lines;
 mod node;
 mod refusal;
+mod sim;
 mod status;
 mod text;
 

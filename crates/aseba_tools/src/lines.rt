@@ -2,19 +2,19 @@
 
 ghost use Rattle.std.specs.Prelude.{◌≡◌, ◌∷◌, [], ◌++◌, map, take, drop, decimal, codes, IfOk, OnOk};
 ghost use Rattle.std.specs.Fmt.{signed_decimal};
-ghost use Rattle.aseba_tree.specs.Line.{blank_number, blank_cells, event_text, lines_text, told, sent, bounds, division, var, end};
+ghost use Rattle.aseba_tree.specs.Line.{blank_number, blank_cells, event_text, lines_text, told, sent, bounds, division, end};
 ghost use Rattle.aseba_vm.specs.declared.tick.Tick.TheVariants.{Sent};
-ghost use Rattle.aseba_codegen.specs.Table.{event_of, tick_reports};
+ghost use Rattle.aseba_codegen.specs.Table.{event_of, tick_reports, var_lines};
 ghost use Rattle.aseba_tools.specs.DefaultNode.{default_project};
 ghost use Rattle.aseba_tools.specs.Words.{code_text};
+ghost use Rattle.aseba_tools.specs.SimText.{place_of};
 
 use std::alloc::Global;
 
 use aseba_vm::Notice;
 use aseba_words::Mem;
 
-use crate::early::Placed;
-use crate::node;
+use crate::early::Variable;
 use crate::text::Text;
 
 /// When something happens in a run: after so many ticks, and with so many effects.
@@ -48,13 +48,13 @@ pub fn notice_line(alloc: Global, moment: Moment, notice: Notice, cells: &[i16])
 }
 
 /// The line of a variable with its cells.
-pub fn var_line(alloc: Global, variable: &Placed, cells: &[i16]) -> Result<Text, Mem>
-    ensures { IfOk result (λ text. text ≡ lines_text (var variable.now.name (take variable.now.size (drop variable.now.start cells.now)) ∷ [])) }
+pub fn var_line(alloc: Global, variable: &Variable, cells: &[i16]) -> Result<Text, Mem>
+    ensures { IfOk result (λ text. text ≡ lines_text (var_lines cells.now (place_of variable.now ∷ []))) }
 {
     let mut text = Text::new(alloc);
     text.push(b"var ")?;
     text.push(variable.name.as_bytes())?;
-    text.push_cells(part(cells, variable.start, variable.size))?;
+    text.push_cells(part(cells, variable.address, 1))?;
     text.push(b"\n")?;
     Ok(text)
 }

@@ -5,7 +5,7 @@ use std::alloc::Global;
 use aseba_words::{Binary, Name};
 use indexmap::IndexMap;
 
-use crate::early::program::{NotCompiled, Placed, Program};
+use crate::early::program::{NotCompiled, Program, Variable};
 use crate::early::scanner::{Lexeme, Sign, next};
 use crate::node;
 
@@ -41,7 +41,7 @@ const INIT_EVENT: u16 = 0xffff;
 #[derive(Drop)]
 struct Compiler {
     words: Vec<u16>,
-    variables: Vec<Placed>,
+    variables: Vec<Variable>,
     /// The address of each name that a sum may use.
     addresses: IndexMap<Vec<u8>, u16>,
     ghost fits: { vec_len words ≤ 2048 },
@@ -89,33 +89,32 @@ impl Compiler {
         let Some((Lexeme::Word(name), rest)) = next(text)? else {
             return Err(NotCompiled::Refused);
         };
-        let start = self.free_address(name)?;
+        let address = self.free_address(name)?;
         let rest = match next(rest)? {
             Some((Lexeme::Sign(Sign::Equals), value)) => {
                 let behind = self.sum(value)?;
-                self.push(STORE | start)?;
+                self.push(STORE | address)?;
                 behind
             }
             _ => rest,
         };
-        let placed = Placed {
+        let variable = Variable {
             name: Name::new(alloc, name)?,
-            start,
-            size: 1,
+            address,
         };
-        self.variables.push(placed)?;
-        self.addresses.insert(Vec::from_slice(alloc, name)?, start)?;
+        self.variables.push(variable)?;
+        self.addresses.insert(Vec::from_slice(alloc, name)?, address)?;
         Ok(rest)
     }
 
     /// The address that a new variable gets.
     fn free_address(&self, name: &[u8]) -> Result<u16, NotCompiled> {
         let is_taken = self.addresses.contains_key(name) || name == b"event.args".as_slice();
-        let start = usize::from(node::NAMED_CELLS) + self.variables.len();
-        if is_taken || !is_name(name) || start >= usize::from(node::CELLS) {
+        let address = usize::from(node::NAMED_CELLS) + self.variables.len();
+        if is_taken || !is_name(name) || address >= usize::from(node::CELLS) {
             return Err(NotCompiled::Refused);
         }
-        Ok(start as u16)
+        Ok(address as u16)
     }
 
     /// Reads `NAME = SUM` up to the end of the text.

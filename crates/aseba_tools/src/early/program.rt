@@ -7,17 +7,14 @@ use aseba_words::{Mem, Name};
 pub struct Program {
     pub words: Vec<u16>,
     /// The source's variables in the order of their declarations.
-    pub variables: Vec<Placed>,
+    pub variables: Vec<Variable>,
 }
 
-/// A variable with its cells.
+/// A variable of one cell.
 #[derive(Drop)]
-pub struct Placed {
+pub struct Variable {
     pub name: Name,
-    /// The address of its first cell.
-    pub start: u16,
-    /// Its number of cells.
-    pub size: u16,
+    pub address: u16,
 }
 
 /// Why there is no program.

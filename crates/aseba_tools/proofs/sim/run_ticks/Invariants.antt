@@ -1,0 +1,10 @@
+use Rattle.std.proofs.Common.{◌≡◌}
+use Rattle.aseba_tools.specs.SimText.{layout_with}
+use Rattle.aseba_tools.proofs.Running.{InRun}
+use Rattle.aseba_tools.proofs.sim.run_ticks.Given as goal
+
+-- some ticks are done, their lines were written, and no put failed
+abbrev pub invariant-loop-tick : goal.invariant-loop-tick
+invariant-loop-tick g l =
+    InRun (layout_with l.program.variables.items) l.fn.machine (g.S.Sink.taken l.fn.out) l.ticks l._tick l.moment l.machine (g.S.Sink.taken l.out)
+    × (g.S.Sink.faults l.out ≡ g.S.Sink.faults l.fn.out)

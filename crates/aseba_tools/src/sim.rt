@@ -1,0 +1,169 @@
+//! The run of a program's words, written line by line.
+
+ghost use Rattle.std.specs.Prelude.{◌≡◌, map, ◌+◌, ◌<◌, ◌≤◌, length, vec_len, ◌^◌, ◌++◌, is_err, IfOk, IfErr, OnOk, OnErr, if◌then◌else◌};
+ghost use Rattle.aseba_edge.specs.Counts.{Counts};
+ghost use Rattle.aseba_edge.specs.Sink.{Took, TookFirst};
+ghost use Rattle.aseba_tree.specs.Line.{lines_text};
+ghost use Rattle.aseba_codegen.specs.Table.{is_effect, started, var_lines};
+ghost use Rattle.aseba_tools.specs.SimEnd.{is_write_fault};
+ghost use Rattle.aseba_tools.specs.SimText.{after_tick, layout_with, place_of, sim_text, ticks_of, IsAt};
+ghost use Rattle.aseba_tools.specs.DefaultNode.{default_project};
+
+use std::alloc::Global;
+
+use aseba_edge::Sink;
+use aseba_vm::{Machine, Tick};
+use aseba_words::Mem;
+
+use crate::early::{Program, Variable};
+use crate::lines::{Moment, code_line, end_line, notice_line, var_line};
+use crate::node;
+use crate::text::Text;
+
+/// Why a run wasn't written whole.
+#[derive(Clone, Copy, Debug, PartialEq, Eq)]
+pub enum SimEnd {
+    /// The sink failed.
+    WriteFault,
+    /// Memory didn't suffice.
+    Mem,
+}
+
+impl From<Mem> for SimEnd {
+    ghost use Rattle.std.specs.Prelude.{◌≡◌};
+    ghost use Rattle.aseba_tools.specs.declared.sim.SimEnd.TheVariants.{Mem as OutOfMemory};
+
+    ghost from_gives = { λ _ e. e ≡ OutOfMemory };
+
+    fn from(_error: Mem) -> SimEnd {
+        SimEnd::Mem
+    }
+}
+
+/// Puts a text.
+#[tactic(auto, using(crate::proofs::Writing::put_steps))]
+fn put_text<S: Sink>(out: &mut S, text: &Text) -> Result<(), SimEnd>
+    ensures whole { OnOk result (Took (S.taken out.old) text.now (S.taken out.new)) }
+    ensures part { OnErr result (TookFirst (S.taken out.old) text.now (S.taken out.new)) }
+    ensures cause { IfErr result (λ e. e ≡ SimEnd.WriteFault) }
+    ensures count { Counts (is_err result) (S.faults out.old) (S.faults out.new) }
+{
+    match out.put(text.as_bytes()) {
+        Ok(()) => Ok(()),
+        Err(_) => Err(SimEnd::WriteFault),
+    }
+}
+
+/// How many effects a tick is, where the variables have so many cells: a store behind them is none.
+fn effects_of(cells: u64, tick: Tick) -> u64
+    ensures { result ≡ (if is_effect cells tick then 1 else 0) }
+{
+    match tick {
+        Tick::Stored { address } => u64::from(u64::from(address) < cells),
+        Tick::Effect | Tick::Sent(_) => 1,
+        Tick::Idle | Tick::Paused | Tick::Quiet => 0,
+    }
+}
+
+/// Does one tick and writes its line, if it has one.
+fn tick<S: Sink>(
+    alloc: Global,
+    machine: &mut Machine,
+    program: &Program,
+    moment: Moment,
+    out: &mut S,
+) -> Result<Moment, SimEnd>
+    requires ticks { moment.ticks < 2 ^ 63 }
+    requires effects { moment.effects < 2 ^ 63 }
+    ensures next { IfOk result (λ next. IsAt (after_tick (layout_with program.now.variables.items) moment machine.old) next machine.new) }
+    ensures whole { OnOk result (Took (S.taken out.old) (lines_text (after_tick (layout_with program.now.variables.items) moment machine.old).lines) (S.taken out.new)) }
+    ensures part { OnErr result (TookFirst (S.taken out.old) (lines_text (after_tick (layout_with program.now.variables.items) moment machine.old).lines) (S.taken out.new)) }
+    ensures count { Counts (is_write_fault result) (S.faults out.old) (S.faults out.new) }
+{
+    let answer = machine.tick();
+    let cells = u64::from(node::NAMED_CELLS) + program.variables.len() as u64;
+    let effects = moment.effects + effects_of(cells, answer);
+    if let Tick::Sent(notice) = answer {
+        let now = Moment { ticks: moment.ticks, effects };
+        let line = notice_line(alloc, now, notice, machine.cells())?;
+        put_text(out, &line)?;
+    }
+    Ok(Moment {
+        ticks: moment.ticks + 1,
+        effects,
+    })
+}
+
+/// Does ticks from the first on, and writes their lines.
+#[tactic(auto, using(crate::proofs::Writing::put_steps))]
+fn run_ticks<S: Sink>(
+    alloc: Global,
+    machine: &mut Machine,
+    program: &Program,
+    ticks: u32,
+    out: &mut S,
+) -> Result<Moment, SimEnd>
+    ensures end { IfOk result (λ end. IsAt (ticks_of program.now.variables.items ticks machine.old) end machine.new) }
+    ensures whole { OnOk result (Took (S.taken out.old) (lines_text (ticks_of program.now.variables.items ticks machine.old).lines) (S.taken out.new)) }
+    ensures part { OnErr result (TookFirst (S.taken out.old) (lines_text (ticks_of program.now.variables.items ticks machine.old).lines) (S.taken out.new)) }
+    ensures count { Counts (is_write_fault result) (S.faults out.old) (S.faults out.new) }
+{
+    let mut moment = Moment {
+        ticks: 0,
+        effects: 0,
+    };
+    for _tick in 0..ticks {
+        moment = tick(alloc, machine, program, moment, out)?;
+    }
+    Ok(moment)
+}
+
+/// Writes the lines of the variables.
+fn put_variables<S: Sink>(
+    alloc: Global,
+    variables: &[Variable],
+    cells: &[i16],
+    out: &mut S,
+) -> Result<(), SimEnd>
+    ensures whole { OnOk result (Took (S.taken out.old) (lines_text (var_lines cells.now (map place_of variables.now))) (S.taken out.new)) }
+    ensures part { OnErr result (TookFirst (S.taken out.old) (lines_text (var_lines cells.now (map place_of variables.now))) (S.taken out.new)) }
+    ensures count { Counts (is_write_fault result) (S.faults out.old) (S.faults out.new) }
+{
+    for variable in variables {
+        let line = var_line(alloc, variable, cells)?;
+        put_text(out, &line)?;
+    }
+    Ok(())
+}
+
+/// Runs a program's words on the default node for so many ticks, and writes the words and what the
+/// run tells, line by line. Where it isn't written whole, what was written begins it.
+#[tactic(auto, unfolding(crate::specs::DefaultNode::default_project))]
+pub fn simulate<S: Sink>(alloc: Global, program: &Program, ticks: u32, out: &mut S) -> Result<(), SimEnd>
+    requires { vec_len program.now.words ≤ 2048 }
+    ensures whole { OnOk result (Took (S.taken out.old) (sim_text program.now.words.items program.now.variables.items ticks) (S.taken out.new)) }
+    ensures part { OnErr result (TookFirst (S.taken out.old) (sim_text program.now.words.items program.now.variables.items ticks) (S.taken out.new)) }
+    ensures count { Counts (is_write_fault result) (S.faults out.old) (S.faults out.new) }
+{
+    let mut machine = loaded_machine(alloc, program.words.as_slice())?;
+    let code = code_line(alloc, program.words.as_slice())?;
+    put_text(out, &code)?;
+    let end = run_ticks(alloc, &mut machine, program, ticks, out)?;
+    put_variables(alloc, program.variables.as_slice(), machine.cells(), out)?;
+    let last = end_line(alloc, end)?;
+    put_text(out, &last)
+}
+
+/// The default node's machine with these words, at the beginning of their init code.
+fn loaded_machine(alloc: Global, words: &[u16]) -> Result<Machine, Mem>
+    requires { length words.now ≤ 2048 }
+    ensures { IfOk result (λ machine. machine ≡ started default_project words.now) }
+{
+    let mut machine = Machine::new(alloc, &node::shape(), node::NODE_ID)?;
+    match machine.load(0, words) {
+        Ok(()) => {}
+        Err(_) => unreachable!(),
+    }
+    machine.reset(false);
+    Ok(machine)
+}
