@@ -1,4 +1,6 @@
 pub mod CommandLemmas
+pub mod Loading
 pub mod Running
+pub mod Simulated
 pub mod Variables
 pub mod Writing

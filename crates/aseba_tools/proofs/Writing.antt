@@ -1,7 +1,7 @@
 -- What was written, and what was to be written.
-use Rattle.std.proofs.Common.{◌≡◌, ◌≤◌, length-append, ℕ, ◌-◌, List, [], ◌∷◌, ◌++◌, length, take, Option, None, Some, Result, Ok, Err, OnErr, ◌∙◌, ap, sym, arith, refl, append_assoc, append-nil, codes}
+use Rattle.std.proofs.Common.{◌≡◌, ◌≤◌, length-append, ℕ, ◌-◌, List, [], ◌∷◌, ◌++◌, length, take, Option, None, Some, Result, Ok, Err, OnErr, ◌∙◌, ap, sym, arith, refl, subst, append_assoc, append-nil, codes}
 use Rattle.aseba_edge.specs.Sink.{and_then, grown, Took, TookFewer, TookFirst}
-use Rattle.aseba_edge.proofs.Puts.{fewer_after, take_past}
+use Rattle.aseba_edge.proofs.Puts.{fewer_after, first_of_more, take_past}
 use Rattle.aseba_tree.specs.Line.{Line, lines_text, line_text}
 
 -- nothing was taken
@@ -62,3 +62,14 @@ first_after (Some b) (Some m) (Some a) text next took first =
       (ends ∙ ap (λ n. m ++ take n next) size ∙ ap (λ x. x ++ take (length a - length b - length text) next) mids
       ∙ append_assoc b text (take (length a - length b - length text) next)
       ∙ ap (λ x. b ++ x) (sym (take_past (length a - length b) text next reach)))
+
+-- a text in two parts, which are put one after the other
+module _ (before mid after : Option (List ℕ)) (first second whole : List ℕ) (parts : first ++ second ≡ whole) where
+  pub cut_in_first : TookFirst before first mid → TookFirst before whole mid
+  cut_in_first part = subst (λ (t : List ℕ). TookFirst before t mid) parts (first_of_more before first second mid part)
+
+  pub cut_in_second : Took before first mid → TookFirst mid second after → TookFirst before whole after
+  cut_in_second took part = subst (λ (t : List ℕ). TookFirst before t after) parts (first_after before mid after first second took part)
+
+  pub both_taken : Took before first mid → Took mid second after → Took before whole after
+  both_taken took more = subst (λ (t : List ℕ). Took before t after) parts (took_after before mid after first second took more)

@@ -1,9 +1,9 @@
 -- What `sim` writes.
-use Rattle.std.specs.Prelude.{◌≡◌, ℕ, ◌+◌, ◌++◌, List, [], map, length}
-use Rattle.aseba_tree.specs.Line.{lines_text}
+use Rattle.std.specs.Prelude.{◌≡◌, ℕ, ℤ, ◌+◌, ◌++◌, List, [], ◌∷◌, map, length}
+use Rattle.aseba_tree.specs.Line.{lines_text, end}
 use Rattle.aseba_vm.specs.State.{State}
 use Rattle.aseba_codegen.specs.Layout.{Placed, placed, Layout, all_cells}
-use Rattle.aseba_codegen.specs.Table.{Run, ticking, all_ticking, beginning, table_lines}
+use Rattle.aseba_codegen.specs.Table.{Run, ticking, all_ticking, beginning, var_lines, ended_lines, table_lines}
 use Rattle.aseba_tools.specs.DefaultNode.{default_project, default_variables}
 use Rattle.aseba_tools.specs.Words.{code_text}
 use Rattle.aseba_tools.specs.declared.early.program.Variable.{Variable}
@@ -16,10 +16,6 @@ place_of v = record { name = v.name; start = v.address; size = 1 }
 -- the layout of a program with these variables on the default node
 abbrev pub layout_with : List Variable → Layout
 layout_with own = record { node = placed 0 default_variables; own = map place_of own; cells = all_cells default_variables + length own }
-
--- the line of the words, and then the lines of the machine's run of them
-abbrev pub sim_text : List ℕ → List Variable → ℕ → List ℕ
-sim_text words own ticks = code_text words ++ lines_text (table_lines default_project (layout_with own) words [] ticks)
 
 -- a run that has told nothing yet, at a moment
 abbrev pub silent : Moment → State → Run
@@ -38,3 +34,19 @@ pub record IsAt (run : Run) (moment : Moment) (machine : State) : Type 0 where
 -- the run of so many ticks of a machine, with these variables
 abbrev pub ticks_of : List Variable → ℕ → State → Run
 ticks_of own ticks machine = all_ticking default_project (layout_with own) [] ticks (beginning machine)
+
+-- the last line
+abbrev pub end_text : Moment → List ℕ
+end_text moment = lines_text (end moment.ticks moment.effects ∷ [])
+
+-- the lines of the variables and the last one
+abbrev pub ending_text : List Variable → List ℤ → Moment → List ℕ
+ending_text own cells moment = lines_text (var_lines cells (map place_of own)) ++ end_text moment
+
+-- what a run of so many ticks tells and leaves
+abbrev pub run_text : List Variable → ℕ → State → List ℕ
+run_text own ticks machine = lines_text (ended_lines (layout_with own) (ticks_of own ticks machine))
+
+-- the line of the words, and then the lines of the machine's run of them
+abbrev pub sim_text : List ℕ → List Variable → ℕ → List ℕ
+sim_text words own ticks = code_text words ++ lines_text (table_lines default_project (layout_with own) words [] ticks)

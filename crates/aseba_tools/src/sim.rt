@@ -6,7 +6,8 @@ ghost use Rattle.aseba_edge.specs.Sink.{Took, TookFirst};
 ghost use Rattle.aseba_tree.specs.Line.{lines_text};
 ghost use Rattle.aseba_codegen.specs.Table.{is_effect, started, var_lines};
 ghost use Rattle.aseba_tools.specs.SimEnd.{is_write_fault};
-ghost use Rattle.aseba_tools.specs.SimText.{after_tick, layout_with, place_of, sim_text, ticks_of, IsAt};
+ghost use Rattle.aseba_tools.specs.SimText.{after_tick, end_text, ending_text, layout_with, place_of, run_text, sim_text, ticks_of, IsAt};
+ghost use Rattle.aseba_tools.specs.Words.{code_text};
 ghost use Rattle.aseba_tools.specs.DefaultNode.{default_project};
 
 use std::alloc::Global;
@@ -136,22 +137,71 @@ fn put_variables<S: Sink>(
     Ok(())
 }
 
+/// Writes the lines of the variables and the last line.
+fn put_ending<S: Sink>(
+    alloc: Global,
+    variables: &[Variable],
+    cells: &[i16],
+    end: Moment,
+    out: &mut S,
+) -> Result<(), SimEnd>
+    ensures whole { OnOk result (Took (S.taken out.old) (ending_text variables.now cells.now end) (S.taken out.new)) }
+    ensures part { OnErr result (TookFirst (S.taken out.old) (ending_text variables.now cells.now end) (S.taken out.new)) }
+    ensures count { Counts (is_write_fault result) (S.faults out.old) (S.faults out.new) }
+{
+    put_variables(alloc, variables, cells, out)?;
+    put_end(alloc, end, out)
+}
+
+/// Writes the last line.
+#[tactic(auto, using(crate::proofs::Writing::put_steps))]
+fn put_end<S: Sink>(alloc: Global, end: Moment, out: &mut S) -> Result<(), SimEnd>
+    ensures whole { OnOk result (Took (S.taken out.old) (end_text end) (S.taken out.new)) }
+    ensures part { OnErr result (TookFirst (S.taken out.old) (end_text end) (S.taken out.new)) }
+    ensures count { Counts (is_write_fault result) (S.faults out.old) (S.faults out.new) }
+{
+    let line = end_line(alloc, end)?;
+    put_text(out, &line)
+}
+
+/// Writes the line of the words.
+#[tactic(auto, using(crate::proofs::Writing::put_steps))]
+fn put_code<S: Sink>(alloc: Global, words: &[u16], out: &mut S) -> Result<(), SimEnd>
+    ensures whole { OnOk result (Took (S.taken out.old) (code_text words.now) (S.taken out.new)) }
+    ensures part { OnErr result (TookFirst (S.taken out.old) (code_text words.now) (S.taken out.new)) }
+    ensures count { Counts (is_write_fault result) (S.faults out.old) (S.faults out.new) }
+{
+    let line = code_line(alloc, words)?;
+    put_text(out, &line)
+}
+
+/// Runs a machine for so many ticks, and writes what the run tells and leaves.
+fn put_run<S: Sink>(
+    alloc: Global,
+    mut machine: Machine,
+    program: &Program,
+    ticks: u32,
+    out: &mut S,
+) -> Result<(), SimEnd>
+    ensures whole { OnOk result (Took (S.taken out.old) (run_text program.now.variables.items ticks machine) (S.taken out.new)) }
+    ensures part { OnErr result (TookFirst (S.taken out.old) (run_text program.now.variables.items ticks machine) (S.taken out.new)) }
+    ensures count { Counts (is_write_fault result) (S.faults out.old) (S.faults out.new) }
+{
+    let end = run_ticks(alloc, &mut machine, program, ticks, out)?;
+    put_ending(alloc, program.variables.as_slice(), machine.cells(), end, out)
+}
+
 /// Runs a program's words on the default node for so many ticks, and writes the words and what the
 /// run tells, line by line. Where it isn't written whole, what was written begins it.
-#[tactic(auto, unfolding(crate::specs::DefaultNode::default_project))]
 pub fn simulate<S: Sink>(alloc: Global, program: &Program, ticks: u32, out: &mut S) -> Result<(), SimEnd>
     requires { vec_len program.now.words ≤ 2048 }
     ensures whole { OnOk result (Took (S.taken out.old) (sim_text program.now.words.items program.now.variables.items ticks) (S.taken out.new)) }
     ensures part { OnErr result (TookFirst (S.taken out.old) (sim_text program.now.words.items program.now.variables.items ticks) (S.taken out.new)) }
     ensures count { Counts (is_write_fault result) (S.faults out.old) (S.faults out.new) }
 {
-    let mut machine = loaded_machine(alloc, program.words.as_slice())?;
-    let code = code_line(alloc, program.words.as_slice())?;
-    put_text(out, &code)?;
-    let end = run_ticks(alloc, &mut machine, program, ticks, out)?;
-    put_variables(alloc, program.variables.as_slice(), machine.cells(), out)?;
-    let last = end_line(alloc, end)?;
-    put_text(out, &last)
+    let machine = loaded_machine(alloc, program.words.as_slice())?;
+    put_code(alloc, program.words.as_slice(), out)?;
+    put_run(alloc, machine, program, ticks, out)
 }
 
 /// The default node's machine with these words, at the beginning of their init code.
