@@ -1,5 +1,6 @@
 pub mod CommandLemmas
 pub mod Loading
+pub mod Outputs
 pub mod Running
 pub mod Simulated
 pub mod Variables

@@ -1,5 +1,6 @@
 pub mod Command
 pub mod DefaultNode
+pub mod Ended
 pub mod SimEnd
 pub mod SimText
 pub mod StatusText

@@ -5,6 +5,7 @@ ghost use Rattle.aseba_tools.specs.Command.{IsSim, IsNoSim, IsTicks, IsNoTicks};
 const MOST_TICKS: u32 = 100_000_000;
 
 /// `sim default SOURCE TICKS`: run a source on the default node.
+#[derive(Clone, Copy, Debug)]
 pub struct SimCommand<'a> {
     /// The name of the source's file.
     pub source: &'a str,

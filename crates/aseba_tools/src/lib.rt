@@ -7,8 +7,12 @@ mod lines;
 mod node;
 mod refusal;
 mod sim;
+mod source;
 mod status;
+mod telling;
 mod text;
+mod top;
 
 pub use refusal::Refusal;
 pub use status::Status;
+pub use top::{Ran, run};

@@ -1,6 +1,6 @@
 //! The run of a program's words, written line by line.
 
-ghost use Rattle.std.specs.Prelude.{◌≡◌, map, ◌+◌, ◌<◌, ◌≤◌, length, vec_len, ◌^◌, ◌++◌, is_err, IfOk, IfErr, OnOk, OnErr, if◌then◌else◌};
+ghost use Rattle.std.specs.Prelude.{◌≡◌, map, ◌+◌, ◌<◌, ◌≤◌, length, ◌^◌, ◌++◌, is_err, IfOk, IfErr, OnOk, OnErr, if◌then◌else◌};
 ghost use Rattle.aseba_edge.specs.Counts.{Counts};
 ghost use Rattle.aseba_edge.specs.Sink.{Took, TookFirst};
 ghost use Rattle.aseba_tree.specs.Line.{lines_text};
@@ -194,7 +194,7 @@ fn put_run<S: Sink>(
 /// Runs a program's words on the default node for so many ticks, and writes the words and what the
 /// run tells, line by line. Where it isn't written whole, what was written begins it.
 pub fn simulate<S: Sink>(alloc: Global, program: &Program, ticks: u32, out: &mut S) -> Result<(), SimEnd>
-    requires { vec_len program.now.words ≤ 2048 }
+    requires { length program.now.words.items ≤ 2048 }
     ensures whole { OnOk result (Took (S.taken out.old) (sim_text program.now.words.items program.now.variables.items ticks) (S.taken out.new)) }
     ensures part { OnErr result (TookFirst (S.taken out.old) (sim_text program.now.words.items program.now.variables.items ticks) (S.taken out.new)) }
     ensures count { Counts (is_write_fault result) (S.faults out.old) (S.faults out.new) }

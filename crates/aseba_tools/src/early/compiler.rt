@@ -16,7 +16,7 @@ const KEYWORDS: [&[u8]; 22] = [
 
 /// Compiles a text in one pass, each statement as it is read.
 pub fn compile(alloc: Global, text: &[u8]) -> Result<Program, NotCompiled>
-    ensures { IfOk result (λ program. vec_len program.words ≤ 2048) }
+    ensures { IfOk result (λ program. length program.words.items ≤ 2048) }
 {
     let mut compiler = Compiler::new(alloc)?;
     let statements = compiler.declarations(alloc, text)?;

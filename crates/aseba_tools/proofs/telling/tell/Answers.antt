@@ -1,0 +1,6 @@
+use Rattle.std.proofs.Common.{is_err}
+use Rattle.aseba_tools.proofs.Writing.{told}
+use Rattle.aseba_tools.proofs.telling.tell.Goals as goal
+
+pub returns : goal.returns
+returns g c = told c.put_pieces.result _ _ _ _ _ _ c.message_about-message.ensures c.put_pieces.ensures.whole c.put_pieces.ensures.part c.put_pieces.ensures.count

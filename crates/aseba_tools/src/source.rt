@@ -1,0 +1,83 @@
+//! `sim`: a source is read, compiled and run.
+
+ghost use Rattle.std.specs.Prelude.{◌≡◌, ℕ, List, Option, option_map};
+ghost use Rattle.aseba_edge.specs.Counts.{Counts};
+ghost use Rattle.aseba_tools.specs.Ended.{Cause, IsOfNoFile, IsOfBigFile, IsOfText, Output, is_read_fault, is_write_fault};
+
+use std::alloc::Global;
+
+use aseba_edge::{FileAnswer, Files, Sink};
+use aseba_words::Name;
+
+use crate::early::{NotCompiled, compile};
+use crate::refusal::Refusal;
+use crate::sim::{SimEnd, simulate};
+use crate::status::Status;
+
+/// The greatest number of bytes that a source may have.
+const MOST_SOURCE: u64 = 1_048_576;
+
+/// Runs a source for so many ticks on the default node, and writes what it tells.
+#[tactic(auto, using(crate::proofs::Outputs::wrote_nothing))]
+pub fn sim<F: Files, S: Sink>(
+    alloc: Global,
+    source: &str,
+    ticks: u32,
+    files: &mut F,
+    out: &mut S,
+) -> Status
+    ensures cause { Cause source.now (option_map (λ files. files source.now) (F.contents files.old)) result }
+    ensures output { Output ticks (S.taken out.old) (S.taken out.new) result }
+    ensures read_fault { Counts (is_read_fault result) (F.faults files.old) (F.faults files.new) }
+    ensures write_fault { Counts (is_write_fault result) (S.faults out.old) (S.faults out.new) }
+    ensures files { F.contents files.new ≡ F.contents files.old }
+{
+    match files.read(alloc, source, MOST_SOURCE) {
+        FileAnswer::Bytes(text) => run_text(alloc, text.as_slice(), ticks, out),
+        FileAnswer::Absent => absent(alloc, source),
+        FileAnswer::TooBig => too_big(alloc, source),
+        FileAnswer::Failed => Status::ReadFault,
+        FileAnswer::Mem => Status::Memory,
+    }
+}
+
+/// Runs the text of a source.
+fn run_text<S: Sink>(alloc: Global, text: &[u8], ticks: u32, out: &mut S) -> Status
+    ensures cause { IsOfText result }
+    ensures output { Output ticks (S.taken out.old) (S.taken out.new) result }
+    ensures write_fault { Counts (is_write_fault result) (S.faults out.old) (S.faults out.new) }
+{
+    match compile(alloc, text) {
+        Ok(program) => match simulate(alloc, &program, ticks, out) {
+            Ok(()) => Status::Done,
+            Err(SimEnd::WriteFault) => Status::WriteFault,
+            Err(SimEnd::Mem) => Status::Memory,
+        },
+        Err(NotCompiled::Refused) => Status::Refused(Refusal::NotBuilt),
+        Err(NotCompiled::Mem) => Status::Memory,
+    }
+}
+
+/// The status of a file that isn't there.
+#[tactic(auto, using(crate::proofs::Outputs::wrote_nothing))]
+fn absent(alloc: Global, file: &str) -> Status
+    ensures cause { IsOfNoFile file.now result }
+    ensures output { (ticks : ℕ) (written : Option (List ℕ)) → Output ticks written written result }
+{
+    match Name::new(alloc, file.as_bytes()) {
+        Ok(file) => Status::Absent { file },
+        Err(_) => Status::Memory,
+    }
+}
+
+/// The status of a file that is too long.
+#[tactic(auto, using(crate::proofs::Outputs::wrote_nothing))]
+fn too_big(alloc: Global, file: &str) -> Status
+    ensures cause { IsOfBigFile file.now result }
+    ensures output { (ticks : ℕ) (written : Option (List ℕ)) → Output ticks written written result }
+{
+    match Name::new(alloc, file.as_bytes()) {
+        Ok(file) => Status::TooBig { file },
+        Err(_) => Status::Memory,
+    }
+}

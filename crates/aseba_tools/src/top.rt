@@ -1,0 +1,83 @@
+ghost use Rattle.std.specs.Prelude.{◌≡◌, ◌↔◌, false, ℕ, List, None, map, option_map, string_bytes};
+ghost use Rattle.aseba_edge.specs.Counts.{Counts};
+ghost use Rattle.aseba_tools.specs.Command.{IsSim, IsNoSim};
+ghost use Rattle.aseba_tools.specs.Ended.{Cause, Output, Told, is_read_fault, is_write_fault};
+ghost use Rattle.aseba_tools.specs.StatusText.{message_of};
+
+use std::alloc::Global;
+
+use aseba_edge::{Clock, Dialer, Files, Sink};
+
+use crate::command::sim_command;
+use crate::source::sim;
+use crate::status::Status;
+use crate::telling::tell;
+
+/// How a call ended, and the link that it opened, as it is at the end.
+pub struct Ran<I, Q, O> {
+    pub status: Status,
+    /// The input of a link that was opened to be read.
+    pub input: Option<I>,
+    /// The input of a link that was opened to be polled.
+    pub polled: Option<Q>,
+    /// The output of the link.
+    pub output: Option<O>,
+}
+
+/// Does what the words of a command line ask for, and tells on `err` how it ended. The words leave
+/// out the program's name. There is one tool yet, `sim default SOURCE TICKS`, which asks neither
+/// the dialer nor the clock for anything.
+pub fn run<F: Files, D: Dialer, S: Sink, E: Sink, C: Clock>(
+    alloc: Global,
+    words: &[String],
+    files: &mut F,
+    dialer: &mut D,
+    out: &mut S,
+    err: &mut E,
+    clock: &mut C,
+) -> Ran<D::In, D::Poll, D::Out>
+    requires clock_is_fresh { C.has_answered clock.old ≡ false }
+    requires clock_is_low { C.floor clock.old ≡ 0 }
+    ensures usage { (result.status ≡ Status.Usage) ↔ IsNoSim (map string_bytes words.now) }
+    ensures cause { (source : List ℕ) (ticks : ℕ) → IsSim (map string_bytes words.now) source ticks →
+        Cause source (option_map (λ files. files source) (F.contents files.old)) result.status }
+    ensures output { (source : List ℕ) (ticks : ℕ) → IsSim (map string_bytes words.now) source ticks →
+        Output ticks (S.taken out.old) (S.taken out.new) result.status }
+    ensures nothing_for_usage { result.status ≡ Status.Usage → S.taken out.new ≡ S.taken out.old }
+    ensures read_fault { Counts (is_read_fault result.status) (F.faults files.old) (F.faults files.new) }
+    ensures write_fault { Counts (is_write_fault result.status) (S.faults out.old) (S.faults out.new) }
+    ensures told { Told (E.taken err.old) (message_of result.status) (E.taken err.new) (E.faults err.old) (E.faults err.new) }
+    ensures files { F.contents files.new ≡ F.contents files.old }
+    ensures dialer { dialer.new ≡ dialer.old }
+    ensures clock { clock.new ≡ clock.old }
+    ensures no_input { result.input ≡ None }
+    ensures no_polled { result.polled ≡ None }
+    ensures no_output { result.output ≡ None }
+{
+    let status = do_tool(alloc, words, files, out);
+    tell(&status, err);
+    Ran {
+        status,
+        input: None,
+        polled: None,
+        output: None,
+    }
+}
+
+/// Does what the words ask for.
+fn do_tool<F: Files, S: Sink>(alloc: Global, words: &[String], files: &mut F, out: &mut S) -> Status
+    ensures usage { (result ≡ Status.Usage) ↔ IsNoSim (map string_bytes words.now) }
+    ensures cause { (source : List ℕ) (ticks : ℕ) → IsSim (map string_bytes words.now) source ticks →
+        Cause source (option_map (λ files. files source) (F.contents files.old)) result }
+    ensures output { (source : List ℕ) (ticks : ℕ) → IsSim (map string_bytes words.now) source ticks →
+        Output ticks (S.taken out.old) (S.taken out.new) result }
+    ensures nothing_for_usage { result ≡ Status.Usage → S.taken out.new ≡ S.taken out.old }
+    ensures read_fault { Counts (is_read_fault result) (F.faults files.old) (F.faults files.new) }
+    ensures write_fault { Counts (is_write_fault result) (S.faults out.old) (S.faults out.new) }
+    ensures files { F.contents files.new ≡ F.contents files.old }
+{
+    match sim_command(words) {
+        Some(command) => sim(alloc, command.source, command.ticks, files, out),
+        None => Status::Usage,
+    }
+}
