@@ -14,6 +14,7 @@ use crate::status::Status;
 use crate::telling::tell;
 
 /// How a call ended, and the link that it opened, as it is at the end.
+#[derive(Debug, Drop)]
 pub struct Ran<I, Q, O> {
     pub status: Status,
     /// The input of a link that was opened to be read.
