@@ -1,0 +1,21 @@
+-- What puts take of what they are given.
+use Rattle.std.specs.Prelude.{◌≡◌, ℕ, ◌≤◌, ◌<◌, List, ◌++◌, length, take, Option, option_map}
+
+-- what was taken, where that is told, with these bytes more
+abbrev pub and_then : Option (List ℕ) → List ℕ → Option (List ℕ)
+and_then taken bytes = option_map (λ before. before ++ bytes) taken
+
+-- all of a text was taken, in however many pieces
+pub record Took (before : Option (List ℕ)) (text : List ℕ) (after : Option (List ℕ)) : Type 0 where
+  pub bytes : after ≡ and_then before text
+
+-- as many of a piece's first bytes were taken, and fewer than it has
+pub record TookFewer (count : ℕ) (before : Option (List ℕ)) (piece : List ℕ) (after : Option (List ℕ)) : Type 0 where
+  pub fewer : count < length piece
+  pub bytes : after ≡ and_then before (take count piece)
+
+-- the first bytes of a text were taken, maybe all of them, and nothing else
+pub record TookFirst (before : Option (List ℕ)) (text : List ℕ) (after : Option (List ℕ)) : Type 0 where
+  pub count : ℕ
+  pub within : count ≤ length text
+  pub bytes : after ≡ and_then before (take count text)
