@@ -1,49 +1,35 @@
--- Puts one after the other: what each took, and what all of them took.
-use Rattle.std.proofs.Common.{◌≡◌, ℕ, ◌+◌, ◌≤◌, ◌<◌, List, ◌++◌, length, take, Option, None, Some, refl, sym, ◌∙◌, ap, arith, append_assoc, length-append, take_all}
+-- What puts in a row took.
+use Rattle.std.proofs.Common.{◌≡◌, ℕ, ◌+◌, ◌-◌, ◌≤◌, List, ◌++◌, length, take, Option, None, Some, ◌∙◌, ap, sym, subst, arith, append_assoc, append-nil, length-append, length-take}
 use Rattle.std.proofs.lemmas.List.{take-append-le}
 use Rattle.std.proofs.Math.Seq.{take-append-add}
-use Rattle.aseba_edge.specs.Sink.{and_then, Took, TookFewer, TookFirst}
+use Rattle.aseba_edge.specs.Sink.{and_then, grown, Took, TookFewer, TookFirst}
 
--- bytes, and then others
-then-then : (taken : Option (List ℕ)) (a b : List ℕ) → and_then (and_then taken a) b ≡ and_then taken (a ++ b)
-then-then None a b = refl
-then-then (Some before) a b = ap Some (append_assoc before a b)
+-- the first elements of two lists, where they reach into the second
+pub take_past : {A : Type 0} (n : ℕ) (xs ys : List A) → length xs ≤ n → take n (xs ++ ys) ≡ xs ++ take (n - length xs) ys
+take_past n xs ys h =
+    let e : n ≡ length xs + (n - length xs) = omega arith in
+    ap (λ m. take m (xs ++ ys)) e ∙ take-append-add xs ys (n - length xs)
 
--- all of a text, and then all of another
-pub all_then : {before mid after : Option (List ℕ)} {a b : List ℕ} → Took mid b after → Took before a mid → Took before (a ++ b) after
-all_then {before} {a = a} {b = b} second first = record { bytes = second.bytes ∙ ap (λ m. and_then m b) first.bytes ∙ then-then before a b }
+-- Puts in a row: a crate above names this set on a function that puts several pieces, as `using(aseba_edge::proofs::Puts::puts)`.
+pub ruleset puts = (take_past, take-append-le, append_assoc, length-append, length-take, append-nil)
 
--- fewer bytes than a piece has are the first bytes
-pub fewer_first : {count : ℕ} {before after : Option (List ℕ)} {piece : List ℕ} → TookFewer count before piece after → TookFirst before piece after
-fewer_first {count} fault = record { count = count; within = omega (arith, fault.fewer); bytes = fault.bytes }
+-- no more was added than the text has
+within : (before after : Option (List ℕ)) (text : List ℕ) → TookFirst before text after → grown before after ≤ length text
+within None after text first = omega arith
+within (Some before) None text first = omega arith
+within (Some before) (Some after) text first =
+    let added : after ≡ before ++ take (length after - length before) text = cc in
+    omega (arith, ap length added, length-append before (take (length after - length before) text), length-take (length after - length before) text)
 
--- all bytes are the first bytes
-pub all_first : {before after : Option (List ℕ)} {text : List ℕ} → Took before text after → TookFirst before text after
-all_first {before} {text = text} took =
-    record { count = length text; within = omega arith; bytes = took.bytes ∙ ap (and_then before) (sym (take_all (length text) text (omega arith))) }
+-- the first bytes of a text are the first of whatever the text begins
+pub first_of_more : (before : Option (List ℕ)) (text more : List ℕ) (after : Option (List ℕ)) → TookFirst before text after → TookFirst before (text ++ more) after
+first_of_more before text more after first = first ∙ ap (and_then before) (sym (take-append-le (grown before after) text more (within before after text first)))
 
--- all of a text, and then the first bytes of another
-pub first_then : {before mid after : Option (List ℕ)} {a b : List ℕ} → TookFirst mid b after → Took before a mid → TookFirst before (a ++ b) after
-first_then {before} {a = a} {b = b} second first =
-    record {
-      count = length a + second.count;
-      within = omega (arith, second.within, length-append a b);
-      bytes = second.bytes ∙ ap (λ m. and_then m (take second.count b)) first.bytes ∙ then-then before a (take second.count b)
-          ∙ ap (and_then before) (sym (take-append-add a b second.count));
-    }
+-- a text was taken, and then fewer bytes than the next piece has
+pub fewer_after : {before mid after : Option (List ℕ)} {text piece : List ℕ} {count : ℕ} → Took before text mid → TookFewer count mid piece after → TookFirst before (text ++ piece) after
+fewer_after took part = grind (arith, puts)
 
--- all of a text, and then fewer bytes than the next piece has
-pub fewer_then : {count : ℕ} {before mid after : Option (List ℕ)} {a b : List ℕ} → TookFewer count mid b after → Took before a mid → TookFirst before (a ++ b) after
-fewer_then second first = first_then (fewer_first second) first
-
--- the first bytes of a text, whatever was to follow it
-pub first_stop : {before after : Option (List ℕ)} {a : List ℕ} (b : List ℕ) → TookFirst before a after → TookFirst before (a ++ b) after
-first_stop {before} {a = a} b first =
-    record {
-      count = first.count;
-      within = omega (arith, first.within, length-append a b);
-      bytes = first.bytes ∙ ap (and_then before) (sym (take-append-le _ a b first.within));
-    }
-
--- for `search`: what was taken by puts in a row
-pub ruleset puts = (all_then, fewer_first, all_first, first_then, fewer_then, first_stop)
+-- A put that failed in a loop: a text was taken before it, and with the piece and what was to follow it is the whole text.
+pub fault_in_loop : {before mid after : Option (List ℕ)} {taken piece whole : List ℕ} {count : ℕ} (rest : List ℕ) → Took before taken mid → TookFewer count mid piece after → taken ++ piece ++ rest ≡ whole → TookFirst before whole after
+fault_in_loop {before} {after = after} {taken} {piece} rest took part text =
+    subst (λ (t : List ℕ). TookFirst before t after) text (first_of_more before (taken ++ piece) rest after (fewer_after took part))

@@ -1,5 +1,5 @@
 -- What a clock has left to answer.
-use Rattle.std.specs.Prelude.{◌≡◌, ℕ, max, List, [], ◌∷◌, map, Option, None, Some}
+use Rattle.std.specs.Prelude.{◌≡◌, ℕ, max, List, [], ◌∷◌, map}
 
 -- a clock answers the first of what it has left
 abbrev pub IsNext : List ℕ → ℕ → Type 0

@@ -1,5 +1,5 @@
 -- What a dialer was asked for, and what it gave.
-use Rattle.std.specs.Prelude.{◌≡◌, ℕ, Bool, true, false, List, [], ◌∷◌, ◌++◌, Option, option_map, Result, Ok, Err, IfSome}
+use Rattle.std.specs.Prelude.{◌≡◌, ℕ, Bool, true, false, List, [], ◌∷◌, ◌++◌, Option, Result, Ok, Err, IfSome}
 use Rattle.aseba_edge.specs.declared.dialer.DialFault.{DialFault}
 use Rattle.aseba_edge.specs.declared.dialer.DialFault.TheVariants.{Refused, Mem}
 use Rattle.aseba_edge.specs.Link.{Input, IsUnread}

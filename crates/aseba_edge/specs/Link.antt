@@ -1,5 +1,5 @@
 -- What a link gives, and what it has left to give.
-use Rattle.std.specs.Prelude.{◌≡◌, ℕ, ◌<◌, ◌≤◌, Bool, true, false, List, [], ◌∷◌, ◌++◌, length, take, drop, nat_le, if◌then◌else◌, ◌==◌, Option, None, Some, IfSome, flat_map}
+use Rattle.std.specs.Prelude.{◌≡◌, ℕ, ◌<◌, ◌≤◌, Bool, true, false, List, [], ◌∷◌, ◌++◌, length, take, drop, nat_le, if◌then◌else◌, ◌==◌, Option, None, Some, flat_map}
 use Rattle.aseba_edge.specs.declared.poll.PollAnswer.{PollAnswer}
 use Rattle.aseba_edge.specs.declared.poll.PollAnswer.TheVariants.{Bytes, Later}
 use Rattle.aseba_edge.specs.declared.poll.Polled.{Polled}

@@ -1,5 +1,5 @@
 -- What puts take of what they are given.
-use Rattle.std.specs.Prelude.{◌≡◌, ℕ, ◌≤◌, ◌<◌, List, ◌++◌, length, take, Option, option_map}
+use Rattle.std.specs.Prelude.{◌≡◌, ℕ, ◌<◌, List, ◌++◌, length, take, Option, option_map, None, Some, ◌-◌}
 
 -- what was taken, where that is told, with these bytes more
 abbrev pub and_then : Option (List ℕ) → List ℕ → Option (List ℕ)
@@ -14,8 +14,12 @@ pub record TookFewer (count : ℕ) (before : Option (List ℕ)) (piece : List �
   pub fewer : count < length piece
   pub bytes : after ≡ and_then before (take count piece)
 
--- the first bytes of a text were taken, maybe all of them, and nothing else
-pub record TookFirst (before : Option (List ℕ)) (text : List ℕ) (after : Option (List ℕ)) : Type 0 where
-  pub count : ℕ
-  pub within : count ≤ length text
-  pub bytes : after ≡ and_then before (take count text)
+-- how many bytes were added
+abbrev pub grown : Option (List ℕ) → Option (List ℕ) → ℕ
+grown None after = 0
+grown (Some before) None = 0
+grown (Some before) (Some after) = length after - length before
+
+-- the bytes that were added are the first of a text, and nothing else changed
+abbrev pub TookFirst : Option (List ℕ) → List ℕ → Option (List ℕ) → Type 0
+TookFirst before text after = after ≡ and_then before (take (grown before after) text)
