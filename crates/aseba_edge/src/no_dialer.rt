@@ -1,0 +1,104 @@
+ghost use Rattle.std.specs.Prelude.{◌≡◌, None, refl};
+
+use crate::dialer::{DialFault, Dialer};
+use crate::link::{LinkFault, LinkIn, LinkOut};
+use crate::poll::{LinkPoll, Polled};
+use crate::sink::PutFault;
+use std::alloc::Global;
+
+/// A dialer for programs without links: each dial is refused.
+#[derive(Debug, Drop)]
+pub struct NoDialer {
+    faults: u64,
+}
+
+/// A link to nowhere, which `NoDialer` would give: each call of it fails, but a put of nothing.
+#[derive(Debug, Drop)]
+pub struct NoLink {
+    faults: u64,
+}
+
+impl NoDialer {
+    /// Takes no memory.
+    pub fn new() -> NoDialer
+        ensures { result ≡ record { faults = 0 } }
+    {
+        NoDialer { faults: 0 }
+    }
+}
+
+impl Dialer for NoDialer {
+    type In = NoLink;
+
+    type Out = NoLink;
+
+    type Poll = NoLink;
+
+    ghost contents = { λ _. None };
+
+    ghost faults = { λ dialer. dialer.faults };
+
+    fn dial(&mut self, _alloc: Global, _address: &str) -> Result<(NoLink, NoLink), DialFault> {
+        self.faults = self.faults.saturating_add(1);
+        Err(DialFault::Refused)
+    }
+
+    fn dial_polled(
+        &mut self,
+        _alloc: Global,
+        _address: &str,
+    ) -> Result<(NoLink, NoLink), DialFault> {
+        self.faults = self.faults.saturating_add(1);
+        Err(DialFault::Refused)
+    }
+}
+
+impl LinkIn for NoLink {
+    ghost contents = { λ _. None };
+
+    ghost mark = { λ _. None };
+
+    ghost faults = { λ link. link.faults };
+
+    ghost tells_mark = { λ _. refl };
+
+    fn read(&mut self, _buf: &mut [u8]) -> Result<usize, LinkFault> {
+        self.faults = self.faults.saturating_add(1);
+        Err(LinkFault)
+    }
+}
+
+impl LinkOut for NoLink {
+    ghost taken = { λ _. None };
+
+    ghost mark = { λ _. None };
+
+    ghost faults = { λ link. link.faults };
+
+    ghost tells_mark = { λ _. refl };
+
+    fn put(&mut self, piece: &[u8]) -> Result<(), PutFault> {
+        if piece.is_empty() {
+            return Ok(());
+        }
+        self.faults = self.faults.saturating_add(1);
+        Err(PutFault { taken: 0 })
+    }
+
+    fn hang_up(&mut self) {}
+}
+
+impl LinkPoll for NoLink {
+    ghost contents = { λ _. None };
+
+    ghost mark = { λ _. None };
+
+    ghost faults = { λ link. link.faults };
+
+    ghost tells_mark = { λ _. refl };
+
+    fn poll(&mut self, _buf: &mut [u8]) -> Polled {
+        self.faults = self.faults.saturating_add(1);
+        Polled::Failed
+    }
+}
