@@ -14,6 +14,11 @@ mod no_dialer;
 mod plan;
 mod poll;
 mod sink;
+mod system_clock;
+mod system_files;
+#[cfg(test)]
+mod tests;
+mod writer_sink;
 
 pub use clock::Clock;
 pub use dialer::{DialFault, Dialer};
@@ -25,3 +30,6 @@ pub use memory_sink::MemorySink;
 pub use no_dialer::{NoDialer, NoLink};
 pub use poll::{LinkPoll, PollAnswer, Polled};
 pub use sink::{PutFault, Sink};
+pub use system_clock::SystemClock;
+pub use system_files::SystemFiles;
+pub use writer_sink::WriterSink;
