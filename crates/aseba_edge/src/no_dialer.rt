@@ -1,4 +1,5 @@
-ghost use Rattle.std.specs.Prelude.{◌≡◌, None, refl};
+ghost use Rattle.std.specs.Prelude.{◌≡◌, None, refl, true};
+ghost use Rattle.aseba_edge.specs.Counts.{Counts};
 
 use crate::dialer::{DialFault, Dialer};
 use crate::link::{LinkFault, LinkIn, LinkOut};
@@ -25,6 +26,23 @@ impl NoDialer {
     {
         NoDialer { faults: 0 }
     }
+
+    fn refuse(&mut self) -> DialFault
+        ensures refused { result ≡ DialFault.Refused }
+        ensures count { Counts true self.old.faults self.new.faults }
+    {
+        self.faults = self.faults.saturating_add(1);
+        DialFault::Refused
+    }
+}
+
+impl NoLink {
+    fn fail(&mut self)
+        ensures { Counts true self.old.faults self.new.faults }
+    {
+        let faults = self.faults;
+        self.faults = faults.saturating_add(1);
+    }
 }
 
 impl Dialer for NoDialer {
@@ -39,8 +57,7 @@ impl Dialer for NoDialer {
     ghost faults = { λ dialer. dialer.faults };
 
     fn dial(&mut self, _alloc: Global, _address: &str) -> Result<(NoLink, NoLink), DialFault> {
-        self.faults = self.faults.saturating_add(1);
-        Err(DialFault::Refused)
+        Err(self.refuse())
     }
 
     fn dial_polled(
@@ -48,8 +65,7 @@ impl Dialer for NoDialer {
         _alloc: Global,
         _address: &str,
     ) -> Result<(NoLink, NoLink), DialFault> {
-        self.faults = self.faults.saturating_add(1);
-        Err(DialFault::Refused)
+        Err(self.refuse())
     }
 }
 
@@ -63,7 +79,7 @@ impl LinkIn for NoLink {
     ghost tells_mark = { λ _. refl };
 
     fn read(&mut self, _buf: &mut [u8]) -> Result<usize, LinkFault> {
-        self.faults = self.faults.saturating_add(1);
+        self.fail();
         Err(LinkFault)
     }
 }
@@ -81,7 +97,7 @@ impl LinkOut for NoLink {
         if piece.is_empty() {
             return Ok(());
         }
-        self.faults = self.faults.saturating_add(1);
+        self.fail();
         Err(PutFault { taken: 0 })
     }
 
@@ -98,7 +114,7 @@ impl LinkPoll for NoLink {
     ghost tells_mark = { λ _. refl };
 
     fn poll(&mut self, _buf: &mut [u8]) -> Polled {
-        self.faults = self.faults.saturating_add(1);
+        self.fail();
         Polled::Failed
     }
 }
