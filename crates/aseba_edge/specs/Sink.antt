@@ -1,9 +1,15 @@
 -- What puts take of what they are given.
-use Rattle.std.specs.Prelude.{◌≡◌, ℕ, ◌<◌, List, ◌++◌, length, take, Option, option_map, None, Some, ◌-◌}
+use Rattle.std.specs.Prelude.{◌≡◌, ℕ, ◌<◌, List, ◌++◌, length, take, Option, option_map, None, Some, ◌-◌, Result, Ok, Err}
+use Rattle.aseba_edge.specs.declared.sink.PutFault.{PutFault}
 
 -- what was taken, where that is told, with these bytes more
 abbrev pub and_then : Option (List ℕ) → List ℕ → Option (List ℕ)
 and_then taken bytes = option_map (λ before. before ++ bytes) taken
+
+-- the bytes of a piece that a put took: all of it, or as many as the fault says
+abbrev pub part_taken : {T : Type 0} → List ℕ → Result T PutFault → List ℕ
+part_taken piece (Ok _) = piece
+part_taken piece (Err fault) = take fault.taken piece
 
 -- all of a text was taken, in however many pieces
 pub record Took (before : Option (List ℕ)) (text : List ℕ) (after : Option (List ℕ)) : Type 0 where
