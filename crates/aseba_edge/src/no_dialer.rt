@@ -1,4 +1,4 @@
-ghost use Rattle.std.specs.Prelude.{◌≡◌, None, refl, true};
+ghost use Rattle.std.specs.Prelude.{◌≡◌, ◌==◌, Err, IfErr, IsErr, None, is_err, is_ok, length, refl, true};
 ghost use Rattle.aseba_edge.specs.Counts.{Counts};
 
 use crate::dialer::{DialFault, Dialer};
@@ -56,15 +56,17 @@ impl Dialer for NoDialer {
 
     ghost faults = { λ dialer. dialer.faults };
 
-    fn dial(&mut self, _alloc: Global, _address: &str) -> Result<(NoLink, NoLink), DialFault> {
+    fn dial(&mut self, _alloc: Global, _address: &str) -> Result<(NoLink, NoLink), DialFault>
+        ensures refused { result ≡ Err DialFault.Refused }
+        ensures count { Counts true self.old.faults self.new.faults }
+    {
         Err(self.refuse())
     }
 
-    fn dial_polled(
-        &mut self,
-        _alloc: Global,
-        _address: &str,
-    ) -> Result<(NoLink, NoLink), DialFault> {
+    fn dial_polled(&mut self, _alloc: Global, _address: &str) -> Result<(NoLink, NoLink), DialFault>
+        ensures refused { result ≡ Err DialFault.Refused }
+        ensures count { Counts true self.old.faults self.new.faults }
+    {
         Err(self.refuse())
     }
 }
@@ -78,7 +80,10 @@ impl LinkIn for NoLink {
 
     ghost tells_mark = { λ _. refl };
 
-    fn read(&mut self, _buf: &mut [u8]) -> Result<usize, LinkFault> {
+    fn read(&mut self, _buf: &mut [u8]) -> Result<usize, LinkFault>
+        ensures fails { IsErr result }
+        ensures count { Counts true self.old.faults self.new.faults }
+    {
         self.fail();
         Err(LinkFault)
     }
@@ -93,7 +98,11 @@ impl LinkOut for NoLink {
 
     ghost tells_mark = { λ _. refl };
 
-    fn put(&mut self, piece: &[u8]) -> Result<(), PutFault> {
+    fn put(&mut self, piece: &[u8]) -> Result<(), PutFault>
+        ensures fails { is_ok result ≡ (length piece.now == 0) }
+        ensures none { IfErr result (λ fault. fault.taken ≡ 0) }
+        ensures count { Counts (is_err result) self.old.faults self.new.faults }
+    {
         if piece.is_empty() {
             return Ok(());
         }
@@ -113,7 +122,10 @@ impl LinkPoll for NoLink {
 
     ghost tells_mark = { λ _. refl };
 
-    fn poll(&mut self, _buf: &mut [u8]) -> Polled {
+    fn poll(&mut self, _buf: &mut [u8]) -> Polled
+        ensures fails { result ≡ Polled.Failed }
+        ensures count { Counts true self.old.faults self.new.faults }
+    {
         self.fail();
         Polled::Failed
     }
