@@ -53,9 +53,12 @@ params_of id = unwrap_or (native_params id) []
 abbrev pub called : ℕ → List ℕ → List ℤ → Bool × List ℤ
 called id args cells = native_run cell with_cell id (addresses (params_of id) args) (call_len (params_of id) args) cells
 
+abbrev pub end_of : Bool → NativeEnd
+end_of stopped = if stopped then Division else Done
+
 -- how a call ends, and the cells after it; what is no call changes none
 abbrev pub call_end : ℕ → List ℕ → List ℤ → NativeEnd
-call_end id args cells = if is_call (length cells) id args then (if (called id args cells).0 then Division else Done) else BadCall
+call_end id args cells = if is_call (length cells) id args then end_of (called id args cells).0 else BadCall
 
 abbrev pub call_cells : ℕ → List ℕ → List ℤ → List ℤ
 call_cells id args cells = if is_call (length cells) id args then (called id args cells).1 else cells

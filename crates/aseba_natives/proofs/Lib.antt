@@ -1,0 +1,6 @@
+pub mod Quotients
+pub mod Each
+pub mod Products
+pub mod Places
+pub mod Arrays
+pub mod ZeroDivisors
