@@ -1,5 +1,5 @@
 -- A stretch of the cells is what a parameter that lies inside reads.
-use Rattle.std.proofs.Common.{◌≡◌, ℕ, zero, suc, ◌+◌, ◌-◌, ◌≤◌, List, ◌∷◌, length, take, drop, map, get_or, refl, sym, ap, ◌∙◌, ℤ, pos, arith}
+use Rattle.std.proofs.Common.{◌≡◌, ℕ, zero, suc, ◌+◌, ◌≤◌, List, ◌∷◌, length, take, drop, map, get_or, refl, ap, ◌∙◌, ℤ, pos, arith}
 use Rattle.std.specs.List.{range_with_len}
 use Rattle.std.proofs.lemmas.List.{drop_more}
 use Rattle.aseba_words.specs.Natives.{cells_of}

@@ -1,5 +1,5 @@
 -- One step of a native that works cell by cell.
-use Rattle.std.proofs.Common.{◌≡◌, ℕ, suc, ◌+◌, Bool, true, List, Option, Some, None, ℤ, slice_set, ap, ◌∙◌, sym, refl, arith}
+use Rattle.std.proofs.Common.{◌≡◌, ℕ, suc, ◌+◌, true, List, Option, Some, None, ℤ, slice_set, ap, ◌∙◌, sym, arith}
 use Rattle.aseba_words.specs.Natives.{each, stored}
 use Rattle.aseba_natives.specs.Call.{cell, with_cell}
 

@@ -4,3 +4,4 @@ pub mod Products
 pub mod Places
 pub mod Arrays
 pub mod ZeroDivisors
+pub mod Rows

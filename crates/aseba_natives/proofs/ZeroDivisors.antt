@@ -1,5 +1,5 @@
 -- A native stops exactly where a divisor is 0 when the cells before it have been stored.
-use Rattle.std.proofs.Common.{◌≡◌, ℕ, zero, suc, ◌+◌, ◌*◌, ◌<◌, Bool, true, false, List, [], ◌∷◌, length, if◌then◌else◌, Option, Some, None, IsSomeAnd, ℤ, pos, ◌*ℤ◌, int_div, refl, sym, ap, ◌∙◌, subst, arith}
+use Rattle.std.proofs.Common.{◌≡◌, ℕ, zero, suc, ◌+◌, ◌<◌, Bool, true, false, List, [], ◌∷◌, length, if◌then◌else◌, Option, Some, None, IsSomeAnd, ℤ, pos, ◌*ℤ◌, int_div, refl, sym, ap, ◌∙◌, subst, arith}
 use Rattle.std.proofs.lemmas.Int.{ints}
 use Rattle.aseba_words.specs.Cell.{divided}
 use Rattle.aseba_words.specs.Natives.{Native, Copy, Fill, AddScalar, Add, Sub, Mul, Div, Min, Max, Clamp, Dot, MulDiv, Stat, ArgBounds, each, stored, run_native, numbered_run, native_numbered}

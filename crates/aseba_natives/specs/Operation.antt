@@ -1,5 +1,5 @@
 -- What the code's natives are, and what they give on a flat list of cells.
-use Rattle.std.specs.Prelude.{ℕ, ◌+◌, ◌<◌, ◌≤◌, Bool, ◌&&◌, nat_eq, List, [], ◌∷◌, length, slice_index, Option, Some, None, ℤ, pos, ◌+ℤ◌, ◌-ℤ◌, ◌*ℤ◌, int_div}
+use Rattle.std.specs.Prelude.{ℕ, ◌+◌, ◌<◌, ◌≤◌, Bool, ◌&&◌, nat_eq, List, [], ◌∷◌, length, slice_index, Option, Some, ℤ, ◌+ℤ◌, ◌-ℤ◌, ◌*ℤ◌, int_div}
 use Rattle.std.specs.Int.{int_min, int_max}
 use Rattle.aseba_words.specs.Cell.{wrapped, divided}
 use Rattle.aseba_words.specs.Natives as natives

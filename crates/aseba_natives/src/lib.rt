@@ -10,6 +10,8 @@ mod dot;
 mod end;
 mod operation;
 mod stat;
+#[cfg(test)]
+mod tests;
 
 pub use call::native;
 pub use end::NativeEnd;

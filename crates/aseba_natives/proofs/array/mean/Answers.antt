@@ -1,4 +1,4 @@
-use Rattle.std.proofs.Common.{◌≡◌, ◌*◌, ◌≤◌, ◌<◌, length, pos, rules, arith, ℤ, int_div, neg_ℤ, ◌≤ℤ◌, w64, to_z, FitsSigned}
+use Rattle.std.proofs.Common.{◌≡◌, ◌*◌, length, pos, rules, arith, int_div, neg_ℤ, ◌≤ℤ◌, w64, to_z}
 use Rattle.std.specs.Int.{w16}
 use Rattle.std.proofs.lemmas.Int.{ints, to_z-of_z}
 use Rattle.aseba_natives.proofs.Quotients.{mean-fits}

@@ -1,5 +1,5 @@
 -- What was summed, and the sum of what remains, is the sum of all.
-use Rattle.std.proofs.Common.{◌≡◌, ◌*◌, ◌^◌, ◌≤◌, length, drop, ◌+ℤ◌, unsigned_abs}
+use Rattle.std.proofs.Common.{◌≡◌, ◌*◌, ◌^◌, ◌≤◌, drop, ◌+ℤ◌, unsigned_abs}
 use Rattle.aseba_words.specs.Natives.{product_sum}
 use Rattle.aseba_natives.proofs.array.product_sum.Given as goal
 

@@ -1,4 +1,4 @@
-use Rattle.std.proofs.Common.{◌≡◌, ◌≢◌, Some, ap, of_z, rules, arith, ℤ, pos, ◌*ℤ◌, int_div, FitsSigned, w64}
+use Rattle.std.proofs.Common.{◌≡◌, ◌≢◌, Some, ap, of_z, rules, arith, ℤ, pos, ◌*ℤ◌, int_div, w64}
 use Rattle.std.specs.Int.{w16}
 use Rattle.std.proofs.lemmas.Int.{ints, to_z-of_z}
 use Rattle.aseba_words.specs.Cell.{divided, wrapped}
