@@ -14,9 +14,9 @@ pub fn argbounds(cells: &mut [i16], src: u16, argmin: u16, argmax: u16, len: u16
     requires argmax_inside { argmax < length cells.old }
     ensures { cells.new ≡ (run_native cell with_cell ArgBounds (src ∷ argmin ∷ argmax ∷ []) len cells.old).1 }
 {
-    let src = array(cells, src, len);
-    let lowest = first_place(least(src), src);
-    let highest = first_place(greatest(src), src);
+    let read = array(cells, src, len);
+    let lowest = first_place(least(read), read);
+    let highest = first_place(greatest(read), read);
     cells[usize::from(argmin)] = lowest;
     cells[usize::from(argmax)] = highest;
 }

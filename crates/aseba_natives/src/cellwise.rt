@@ -1,8 +1,8 @@
 ghost use Rattle.std.specs.Prelude.{◌≡◌, ℕ, ◌+◌, ◌<◌, ◌≤◌, length, slice_index, int_div, ◌*ℤ◌};
-ghost use Rattle.aseba_words.specs.Cell.{divided};
+ghost use Rattle.aseba_words.specs.Cell.{binary_value, divided};
 ghost use Rattle.aseba_words.specs.Natives.{sizes, clamped, each};
 ghost use Rattle.aseba_natives.specs.Call.{cell, with_cell, end_of};
-ghost use Rattle.aseba_natives.specs.Operation.{native_of_cellwise, cellwise_value, RangesInside};
+ghost use Rattle.aseba_natives.specs.Operation.{native_of_cellwise, cellwise_value, param, HasRange, RangesInside};
 
 use crate::arithmetic::{product, quotient};
 use crate::end::NativeEnd;
@@ -70,52 +70,34 @@ impl Cellwise {
             Cellwise::Copy => Some(read(cells, starts[1], k)),
             Cellwise::Fill => Some(read(cells, starts[1], 0)),
             Cellwise::AddScalar => {
-                binary(
-                    Binary::Add,
-                    read(cells, starts[1], k),
-                    read(cells, starts[2], 0),
-                )
+                let scalar = read(cells, starts[2], 0);
+                binary(Binary::Add, read(cells, starts[1], k), scalar)
             }
-            Cellwise::Add => {
-                binary(
-                    Binary::Add,
-                    read(cells, starts[1], k),
-                    read(cells, starts[2], k),
-                )
-            }
-            Cellwise::Sub => {
-                binary(
-                    Binary::Sub,
-                    read(cells, starts[1], k),
-                    read(cells, starts[2], k),
-                )
-            }
-            Cellwise::Mul => {
-                binary(
-                    Binary::Mul,
-                    read(cells, starts[1], k),
-                    read(cells, starts[2], k),
-                )
-            }
-            Cellwise::Div => {
-                binary(
-                    Binary::Div,
-                    read(cells, starts[1], k),
-                    read(cells, starts[2], k),
-                )
-            }
+            Cellwise::Add => combined(Binary::Add, cells, starts, k),
+            Cellwise::Sub => combined(Binary::Sub, cells, starts, k),
+            Cellwise::Mul => combined(Binary::Mul, cells, starts, k),
+            Cellwise::Div => combined(Binary::Div, cells, starts, k),
             Cellwise::Min => Some(read(cells, starts[1], k).min(read(cells, starts[2], k))),
             Cellwise::Max => Some(read(cells, starts[1], k).max(read(cells, starts[2], k))),
             Cellwise::Clamp => {
-                let value = read(cells, starts[1], k);
-                Some(clamp(value, read(cells, starts[2], k), read(cells, starts[3], k)))
+                let (low, high) = (read(cells, starts[2], k), read(cells, starts[3], k));
+                Some(clamp(read(cells, starts[1], k), low, high))
             }
             Cellwise::MulDiv => {
-                let a = read(cells, starts[1], k);
-                muldiv(a, read(cells, starts[2], k), read(cells, starts[3], k))
+                let (a, b) = (read(cells, starts[1], k), read(cells, starts[2], k));
+                muldiv(a, b, read(cells, starts[3], k))
             }
         }
     }
+}
+
+/// An operator's value on the cells `k` of the two parameters behind the destination.
+fn combined(op: Binary, cells: &[i16], starts: &[u16], k: usize) -> Option<i16>
+    requires first { HasRange starts.now 1 (k + 1) (length cells.now) }
+    requires second { HasRange starts.now 2 (k + 1) (length cells.now) }
+    ensures { result ≡ binary_value op (param starts.now 1 cells.now k) (param starts.now 2 cells.now k) }
+{
+    binary(op, read(cells, starts[1], k), read(cells, starts[2], k))
 }
 
 /// The cell `k` from an address on.

@@ -15,8 +15,8 @@ pub fn stat(cells: &mut [i16], src: u16, min: u16, max: u16, middle: u16, len: u
     requires middle_inside { middle < length cells.old }
     ensures { cells.new ≡ (run_native cell with_cell Stat (src ∷ min ∷ max ∷ middle ∷ []) len cells.old).1 }
 {
-    let src = array(cells, src, len);
-    let (lowest, highest, average) = (least(src), greatest(src), mean(src));
+    let read = array(cells, src, len);
+    let (lowest, highest, average) = (least(read), greatest(read), mean(read));
     cells[usize::from(min)] = lowest;
     cells[usize::from(max)] = highest;
     cells[usize::from(middle)] = average;
