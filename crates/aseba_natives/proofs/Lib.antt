@@ -5,3 +5,4 @@ pub mod Places
 pub mod Arrays
 pub mod ZeroDivisors
 pub mod Rows
+pub mod Alike
