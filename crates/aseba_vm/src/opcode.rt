@@ -1,0 +1,62 @@
+ghost use Rattle.std.specs.Prelude.{◌≡◌};
+ghost use Rattle.aseba_vm.specs.Instructions.{opcode_of, operand_of, signed_operand_of};
+
+/// What an instruction word asks for, by its high four bits, in their order.
+#[derive(Clone, Copy, Debug, PartialEq, Eq)]
+pub enum Opcode {
+    End,
+    SmallNumber,
+    LargeNumber,
+    Load,
+    Store,
+    LoadIndirect,
+    StoreIndirect,
+    UnaryOperator,
+    BinaryOperator,
+    Jump,
+    Branch,
+    Emit,
+    NativeCall,
+    SubCall,
+    SubReturn,
+    NoInstruction,
+}
+
+/// The instruction that a word is.
+pub fn opcode(word: u16) -> Opcode
+    ensures { result ≡ opcode_of word }
+{
+    match word / 4096 {
+        0 => Opcode::End,
+        1 => Opcode::SmallNumber,
+        2 => Opcode::LargeNumber,
+        3 => Opcode::Load,
+        4 => Opcode::Store,
+        5 => Opcode::LoadIndirect,
+        6 => Opcode::StoreIndirect,
+        7 => Opcode::UnaryOperator,
+        8 => Opcode::BinaryOperator,
+        9 => Opcode::Jump,
+        10 => Opcode::Branch,
+        11 => Opcode::Emit,
+        12 => Opcode::NativeCall,
+        13 => Opcode::SubCall,
+        14 => Opcode::SubReturn,
+        _ => Opcode::NoInstruction,
+    }
+}
+
+/// The low twelve bits of a word.
+pub fn operand(word: u16) -> u16
+    ensures { result ≡ operand_of word }
+{
+    word % 4096
+}
+
+/// The low twelve bits of a word as a signed number.
+pub fn signed_operand(word: u16) -> i16
+    ensures { result ≡ signed_operand_of word }
+{
+    let low = (word % 4096) as i16;
+    if low < 2048 { low } else { low - 4096 }
+}
