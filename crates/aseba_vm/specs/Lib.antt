@@ -1,4 +1,7 @@
+pub mod Arrival
+pub mod Control
 pub mod Instructions
+pub mod Lists
 pub mod Loaded
 pub mod Outcome
 pub mod Rows

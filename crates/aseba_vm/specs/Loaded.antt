@@ -1,13 +1,9 @@
--- A machine as it is made, and how code comes into it.
-use Rattle.std.specs.Prelude.{ℕ, false, List, [], replicate, slice_set, ℤ, pos, Option, Some, None}
-use Rattle.std.specs.Int.{cast_signed, w16}
+-- A machine as it is made, how code comes into it, and how it begins anew.
+use Rattle.std.specs.Prelude.{ℕ, ◌+◌, ◌≤◌, nat_le, if◌then◌else◌, Bool, true, false, List, [], length, replicate, ℤ, pos, Option, Some, None, Result, Ok, Err}
 use Rattle.aseba_vm.specs.declared.shape.Shape.{Shape}
-use Rattle.aseba_vm.specs.State.{State}
-
--- the number is put into the named cell, where there is one
-abbrev pub named : Option ℕ → ℕ → List ℤ → List ℤ
-named None number cells = cells
-named (Some address) number cells = slice_set cells address (cast_signed w16 number)
+use Rattle.aseba_vm.specs.declared.refusals.OutOfCode.{OutOfCode}
+use Rattle.aseba_vm.specs.State.{State, named, none_held}
+use Rattle.aseba_vm.specs.Lists.{overwritten, handler_of}
 
 -- all cells 0 but the id's
 abbrev pub fresh_cells : Shape → ℕ → List ℤ
@@ -26,3 +22,25 @@ made shape id = record {
   paused = false;
   held = replicate shape.cells None;
 }
+
+-- words into the code from a place on, where they all fit
+abbrev pub loaded : ℕ → List ℕ → State → Result Unit OutOfCode × State
+loaded start words s =
+    let end = start + length words in
+    if nat_le end s.shape.code
+    then (Ok tt, record s { code = overwritten start words s.code })
+    else (Err (record { end = end; size = s.shape.code }), s)
+
+-- the number of the event that begins the init code
+abbrev pub init_event : ℕ
+init_event = 65535
+
+-- the init code begins, where there is one
+abbrev pub started : Option ℕ → State → State
+started None s = record s { pc = 0; active = false }
+started (Some address) s = record s { pc = address; active = true }
+
+-- nothing is held, on the stack or in a cell but the id; the code stays
+abbrev pub reset_state : Bool → State → State
+reset_state paused s =
+    started (handler_of init_event s.code) (record s { cells = fresh_cells s.shape s.id; stack = []; paused = paused; held = none_held s.held })

@@ -1,5 +1,6 @@
 -- What a machine holds, and how a handler ends in it. Code words and addresses are natural numbers, cells are whole numbers from -32768 to 32767.
-use Rattle.std.specs.Prelude.{◌≡◌, ◌<◌, ◌≤◌, ◌+◌, ℕ, ℤ, Bool, true, false, List, [], ◌∷◌, length, replicate, Option, Some, None, IfSome, unwrap_or, nat_lt}
+use Rattle.std.specs.Prelude.{◌≡◌, ◌<◌, ◌≤◌, ◌+◌, ℕ, ℤ, Bool, true, false, List, [], ◌∷◌, length, replicate, Option, Some, None, IfSome, unwrap_or, nat_lt, slice_set}
+use Rattle.std.specs.Int.{cast_signed, w16}
 use Rattle.aseba_vm.specs.declared.shape.Shape.{Shape}
 
 -- The stack has its top first. Each cell has its entry in `held`: the value that waits for the handler's end, if there is one.
@@ -19,6 +20,11 @@ pub record NamesInside (shape : Shape) : Type 0 where
   pub id : IfSome shape.id (λ address. address < shape.cells)
   pub source : IfSome shape.source (λ address. address < shape.cells)
   pub args : 0 < shape.args_len → shape.args_at + shape.args_len ≤ shape.cells
+
+-- a number in the named cell, where there is one
+abbrev pub named : Option ℕ → ℕ → List ℤ → List ℤ
+named None number cells = cells
+named (Some address) number cells = slice_set cells address (cast_signed w16 number)
 
 -- no cell holds a value
 abbrev pub none_held : List (Option ℤ) → List (Option ℤ)

@@ -15,7 +15,7 @@ settled (Ok tick) s = (tick, s)
 settled (Err notice) s = (Sent notice, record (ended s) { paused = true })
 
 -- the instruction at the counter
-abbrev pub stepped : State → Outcome
+abbrev pub stepped : State → Outcome Tick
 stepped s = given (slice_get s.code s.pc) (faulting Code s) (λ word. row (opcode_of word) word s)
 
 -- nothing where the machine is idle or paused, else one instruction

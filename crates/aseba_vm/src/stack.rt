@@ -13,7 +13,7 @@ pub struct Stack {
 }
 
 impl Model for Stack {
-    ghost use Rattle.std.specs.Prelude.{◌≤◌, ◌×◌, reverse, vec_len, vec_capacity};
+    ghost use Rattle.std.specs.Prelude.{◌≤◌, reverse, vec_len, vec_capacity};
     ghost use Rattle.aseba_vm.specs.StackView.{StackView};
 
     ghost Value = { StackView };
