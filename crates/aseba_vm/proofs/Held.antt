@@ -1,5 +1,5 @@
 -- Held values, one cell after the other.
-use Rattle.std.proofs.Common.{◌≡◌, ℕ, zero, suc, ◌<◌, ◌+◌, ℤ, List, [], ◌∷◌, length, get_or, set, replicate, Option, Some, None, unwrap_or, refl, ap, sym, arith}
+use Rattle.std.proofs.Common.{◌≡◌, ℕ, zero, suc, ◌<◌, ℤ, List, [], ◌∷◌, length, get_or, set, replicate, Option, Some, None, unwrap_or, refl, ap, arith}
 use Rattle.aseba_vm.specs.State.{applied, none_held}
 
 -- to move one held value into its cell leaves what applying all of them gives

@@ -1,3 +1,4 @@
 pub mod Held
 pub mod Overwrites
+pub mod Tops
 pub mod Worked

@@ -1,5 +1,5 @@
 -- Overwriting, one element after the other.
-use Rattle.std.proofs.Common.{◌≡◌, ℕ, suc, ◌<◌, ◌≤◌, ◌+◌, List, [], ◌∷◌, ◌++◌, length, get_or, set, take, drop, ℤ, pos, map, Option, Some, refl, ap, sym, ◌∙◌, append_assoc, length-append, drop-cons, add-zero, arith}
+use Rattle.std.proofs.Common.{◌≡◌, ℕ, suc, ◌<◌, ◌≤◌, ◌+◌, List, [], ◌∷◌, ◌++◌, length, get_or, set, take, drop, ℤ, pos, map, Option, Some, ap, sym, ◌∙◌, append_assoc, length-append, drop-cons, add-zero, arith}
 use Rattle.std.proofs.lemmas.List.{set_at, length-take-le, take-append-drop, take_more, length-map, map-append}
 use Rattle.aseba_vm.specs.Lists.{overwritten}
 
@@ -14,7 +14,7 @@ overwritten-more {A} start xs x old h =
     let behind : start + length (xs ++ x ∷ []) ≡ suc place = omega (arith, length-append xs (x ∷ [])) in
     let left : take start old ++ ((xs ++ x ∷ []) ++ drop (start + length (xs ++ x ∷ [])) old) ≡ front ++ x ∷ rest = rw behind (simp append_assoc) in
     let right : set (take start old ++ (xs ++ drop place old)) place x ≡ front ++ x ∷ rest =
-        rw (split, ← append_assoc (take start old) xs (get_or old place x ∷ rest)) (set_at front (get_or old place x) rest x place size) in
+    rw (split, ← append_assoc (take start old) xs (get_or old place x ∷ rest)) (set_at front (get_or old place x) rest x place size) in
     left ∙ sym right
 
 -- to overwrite with nothing changes nothing

@@ -1,12 +1,10 @@
 -- The definition of the machine, computed on small programs. A variable of the program stands at address 34, behind the node's own.
-use Rattle.std.proofs.Common.{◌≡◌, ℕ, zero, suc, ◌+◌, ◌<◌, nat_lt, if◌then◌else◌, Bool, true, false, List, [], ◌∷◌, slice_get, ℤ, pos, negsuc, Option, Some, None, refl}
+use Rattle.std.proofs.Common.{◌≡◌, ℕ, zero, suc, ◌+◌, nat_lt, if◌then◌else◌, true, false, List, [], ◌∷◌, slice_get, ℤ, pos, Option, Some, refl}
 use Rattle.std.specs.Int.{int_wrap}
 use Rattle.aseba_vm.specs.declared.shape.Shape.{Shape}
-use Rattle.aseba_vm.specs.declared.arrival.Arrival.{Arrival}
-use Rattle.aseba_vm.specs.declared.arrival.Arrival.TheVariants.{Killed, Started}
+use Rattle.aseba_vm.specs.declared.arrival.Arrival.TheVariants.{Killed}
 use Rattle.aseba_vm.specs.declared.tick.Tick.{Tick}
-use Rattle.aseba_vm.specs.declared.tick.Tick.TheVariants.{Idle, Paused, Quiet, Stored, Effect, Sent}
-use Rattle.aseba_vm.specs.declared.tick.Notice.{Notice}
+use Rattle.aseba_vm.specs.declared.tick.Tick.TheVariants.{Idle, Stored, Effect, Sent}
 use Rattle.aseba_vm.specs.declared.tick.Notice.TheVariants.{Emit, NodeError}
 use Rattle.aseba_vm.specs.declared.tick.NodeFault.TheVariants.{Stack}
 use Rattle.aseba_vm.specs.State.{State}

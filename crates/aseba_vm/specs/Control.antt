@@ -1,5 +1,5 @@
 -- What is done to a machine from outside, beside events: cells are written, and a handler is paused or stopped.
-use Rattle.std.specs.Prelude.{ℕ, ◌+◌, nat_le, if◌then◌else◌, Bool, false, List, length, map, ℤ, Option, Some, Result, Ok, Err}
+use Rattle.std.specs.Prelude.{ℕ, ◌+◌, nat_le, if◌then◌else◌, false, List, length, map, ℤ, Some, Result, Ok, Err}
 use Rattle.aseba_vm.specs.declared.refusals.OutOfCells.{OutOfCells}
 use Rattle.aseba_vm.specs.State.{State, ended}
 use Rattle.aseba_vm.specs.Lists.{overwritten}

@@ -1,5 +1,5 @@
 -- A machine as it is made, how code comes into it, and how it begins anew.
-use Rattle.std.specs.Prelude.{ℕ, ◌+◌, ◌≤◌, nat_le, if◌then◌else◌, Bool, true, false, List, [], length, replicate, ℤ, pos, Option, Some, None, Result, Ok, Err}
+use Rattle.std.specs.Prelude.{ℕ, ◌+◌, nat_le, if◌then◌else◌, Bool, true, false, List, [], length, replicate, ℤ, pos, Option, Some, None, Result, Ok, Err}
 use Rattle.aseba_vm.specs.declared.shape.Shape.{Shape}
 use Rattle.aseba_vm.specs.declared.refusals.OutOfCode.{OutOfCode}
 use Rattle.aseba_vm.specs.State.{State, named, none_held}

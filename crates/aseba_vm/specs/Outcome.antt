@@ -1,7 +1,6 @@
 -- What an instruction, or a part of it, makes of a state: a value and the state after it, or the notice that ends the handler.
 -- The checks of an instruction are written in their order, each with what goes on where it holds.
-use Rattle.std.specs.Prelude.{ℕ, ◌+◌, Bool, true, false, if◌then◌else◌, nat_lt, ◌∷◌, length, drop, slice_get, slice_set, ℤ, pos, negsuc, ◌+ℤ◌, Option, Some, None, Result, Ok, Err}
-use Rattle.aseba_words.specs.declared.operators.Binary.{Binary}
+use Rattle.std.specs.Prelude.{ℕ, ◌+◌, if◌then◌else◌, nat_lt, length, drop, slice_get, slice_set, ℤ, pos, negsuc, ◌+ℤ◌, Option, Some, None, Result, Ok, Err}
 use Rattle.aseba_words.specs.Cell.{binary_value}
 use Rattle.aseba_words.specs.Codes.{binary_coded}
 use Rattle.aseba_vm.specs.declared.tick.Notice.{Notice}
@@ -82,6 +81,6 @@ dividing value s go_on = given value (stopping (Division s.pc) s) go_on
 abbrev pub computed : ℕ → State → Outcome ℤ
 computed code s =
     operating (binary_coded code) s (λ operator.
-        popping s (λ right s.
-            popping s (λ left s.
-                dividing (binary_value operator left right) s (λ value. answering value s))))
+    popping s (λ right s.
+    popping s (λ left s.
+    dividing (binary_value operator left right) s (λ value. answering value s))))

@@ -1,5 +1,5 @@
 -- What a machine holds, and how a handler ends in it. Code words and addresses are natural numbers, cells are whole numbers from -32768 to 32767.
-use Rattle.std.specs.Prelude.{◌≡◌, ◌<◌, ◌≤◌, ◌+◌, ℕ, ℤ, Bool, true, false, List, [], ◌∷◌, length, replicate, Option, Some, None, IfSome, unwrap_or, nat_lt, slice_set}
+use Rattle.std.specs.Prelude.{◌≡◌, ◌<◌, ◌≤◌, ◌+◌, ℕ, ℤ, Bool, false, List, [], ◌∷◌, length, replicate, Option, Some, None, IfSome, unwrap_or, nat_lt, slice_set}
 use Rattle.std.specs.Int.{cast_signed, w16}
 use Rattle.aseba_vm.specs.declared.shape.Shape.{Shape}
 

@@ -1,5 +1,5 @@
 -- One tick of a machine, on every state and every word.
-use Rattle.std.specs.Prelude.{ℕ, Bool, true, false, if◌then◌else◌, slice_get, Option, Some, None, Result, Ok, Err}
+use Rattle.std.specs.Prelude.{true, if◌then◌else◌, slice_get, Result, Ok, Err}
 use Rattle.aseba_vm.specs.declared.tick.Tick.{Tick}
 use Rattle.aseba_vm.specs.declared.tick.Tick.TheVariants.{Idle, Paused, Sent}
 use Rattle.aseba_vm.specs.declared.tick.Notice.{Notice}

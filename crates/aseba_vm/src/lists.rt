@@ -10,7 +10,11 @@ use crate::shape::Shape;
 pub fn index_in(size: u16, index: i32) -> Option<u16>
     ensures { result ≡ index_in size index }
 {
-    if 0 <= index && index < i32::from(size) { Some(index as u16) } else { None }
+    if 0 <= index && index < i32::from(size) {
+        Some(index as u16)
+    } else {
+        None
+    }
 }
 
 /// Puts a number into a named cell, if there is one.

@@ -13,14 +13,12 @@ mod resets;
 mod ticks;
 mod writes;
 
-use std::alloc::Global;
-use std::marker::Model;
-
-use aseba_words::Mem;
-
 use crate::lists::put_named;
 use crate::shape::Shape;
 use crate::stack::Stack;
+use aseba_words::Mem;
+use std::alloc::Global;
+use std::marker::Model;
 
 /// A robot's machine. Its code, cells and stack have the sizes of its shape and are made once.
 #[derive(Drop)]

@@ -1,9 +1,10 @@
-ghost use Rattle.std.specs.Prelude.{◌≡◌, ◌∷◌, [], ◌<◌, length, drop, slice_get, nat_lt, IfOk, OnSome};
-
-use std::alloc::Global;
-use std::marker::Model;
+ghost use Rattle.std.specs.Prelude.{◌≡◌, ◌∷◌, [], ◌<◌, ◌≤◌, length, drop, map, slice_get, nat_lt, IfOk, OnSome};
+ghost use Rattle.std.specs.Int.{cast_unsigned, w16};
+ghost use Rattle.aseba_vm.specs.Rows.{arguments};
 
 use aseba_words::Mem;
+use std::alloc::Global;
+use std::marker::Model;
 
 /// The values that a machine computes with. The room for them is made once.
 #[derive(Drop)]
@@ -59,10 +60,39 @@ impl Stack {
         self.values.pop()
     }
 
+    /// How many values there are.
+    pub fn len(&self) -> usize
+        ensures { result ≡ length self.now.values }
+    {
+        self.values.len()
+    }
+
+    /// Takes as many values from the top as there are places for them, the lowest into the first.
+    #[tactic(auto, using(crate::proofs::Tops::tops))]
+    pub fn pop_into(&mut self, places: &mut [u16])
+        requires { length places.old ≤ length self.old.values }
+        ensures values { places.new ≡ arguments (length places.old) self.old.values }
+        ensures rest { self.new ≡ record self.old { values = drop (length places.old) self.old.values } }
+    {
+        let start = self.values.len() - places.len();
+        read_words(&self.values[start..], places);
+        self.values.truncate(start);
+    }
+
     /// Takes all values away.
     pub fn clear(&mut self)
         ensures { self.new ≡ record self.old { values = [] } }
     {
         self.values.clear();
+    }
+}
+
+/// Reads values as words.
+fn read_words(values: &[i16], places: &mut [u16])
+    requires { length values.now ≡ length places.old }
+    ensures { places.new ≡ map (cast_unsigned w16) values.now }
+{
+    for (place, value) in values.iter().enumerate() {
+        places[place] = value.cast_unsigned();
     }
 }

@@ -1,7 +1,6 @@
+use crate::{Arrival, Machine, NodeFault, Notice, OutOfCells, OutOfCode, Shape, Tick};
 use std::process::Abort;
 use std::test::Fail;
-
-use crate::{Arrival, Machine, NodeFault, Notice, OutOfCells, OutOfCode, Shape, Tick};
 
 /// The address of a program's first variable, behind the node's own.
 const VARIABLE: usize = 34;
@@ -39,8 +38,8 @@ fn variable(rt: &impl Abort, machine: &Machine) -> i16 {
 #[test]
 fn counts_in_a_loop(rt: HostRuntime) -> Result<(), Fail> {
     let words = [
-        0x0003, 0xffff, 0x0003, 0x1001, 0x4022, 0x3022, 0x1002, 0xa00f, 0x0007, 0x3022, 0x1001, 0x8002, 0x4022,
-        0x9ff8, 0x0000,
+        0x0003, 0xffff, 0x0003, 0x1001, 0x4022, 0x3022, 0x1002, 0xa00f, 0x0007, 0x3022, 0x1001,
+        0x8002, 0x4022, 0x9ff8, 0x0000,
     ];
     let mut machine = Machine::new(rt.alloc(), &SHAPE, 1)?;
     machine.load(0, &words)?;
@@ -52,7 +51,9 @@ fn counts_in_a_loop(rt: HostRuntime) -> Result<(), Fail> {
 
 #[test]
 fn calls_a_subroutine(rt: HostRuntime) -> Result<(), Fail> {
-    let words = [0x0003, 0xffff, 0x0003, 0xd005, 0x0000, 0x1005, 0x4022, 0xe000];
+    let words = [
+        0x0003, 0xffff, 0x0003, 0xd005, 0x0000, 0x1005, 0x4022, 0xe000,
+    ];
     let mut machine = Machine::new(rt.alloc(), &SHAPE, 1)?;
     machine.load(0, &words)?;
     machine.reset(false);
@@ -65,8 +66,8 @@ fn calls_a_subroutine(rt: HostRuntime) -> Result<(), Fail> {
 #[test]
 fn remembers_a_condition(rt: HostRuntime) -> Result<(), Fail> {
     let words = [
-        0x0005, 0xffff, 0x0005, 0x0002, 0x0006, 0x0000, 0x1000, 0x5002, 0x0020, 0x1001, 0xa10a, 0x0006, 0x3022,
-        0x1001, 0x8002, 0x4022, 0x0000,
+        0x0005, 0xffff, 0x0005, 0x0002, 0x0006, 0x0000, 0x1000, 0x5002, 0x0020, 0x1001, 0xa10a,
+        0x0006, 0x3022, 0x1001, 0x8002, 0x4022, 0x0000,
     ];
     let mut machine = Machine::new(rt.alloc(), &SHAPE, 1)?;
     machine.load(0, &words)?;
@@ -83,8 +84,8 @@ fn remembers_a_condition(rt: HostRuntime) -> Result<(), Fail> {
 #[test]
 fn kills_inside_an_expression(rt: HostRuntime) -> Result<(), Fail> {
     let words = [
-        0x0005, 0xffff, 0x0005, 0x0000, 0x0008, 0x1001, 0x4022, 0x0000, 0x3022, 0x1001, 0x8002, 0x4022, 0xb001,
-        0x0000, 0x0000, 0x0000,
+        0x0005, 0xffff, 0x0005, 0x0000, 0x0008, 0x1001, 0x4022, 0x0000, 0x3022, 0x1001, 0x8002,
+        0x4022, 0xb001, 0x0000, 0x0000, 0x0000,
     ];
     let mut machine = Machine::new(rt.alloc(), &SHAPE, 1)?;
     machine.load(0, &words)?;
@@ -140,7 +141,10 @@ fn holds_what_is_written_until_the_end(rt: HostRuntime) -> Result<(), Fail> {
     assert_eq!(rt; variable(&rt, &machine), 50);
     machine.hold_write(34, &[-1])?;
     assert_eq!(rt; variable(&rt, &machine), -1);
-    let refused = OutOfCells { end: 1025, size: 1024 };
+    let refused = OutOfCells {
+        end: 1025,
+        size: 1024,
+    };
     assert_eq!(rt; machine.hold_write(1023, &[0, 0]), Err(refused));
     Ok(())
 }
@@ -148,7 +152,10 @@ fn holds_what_is_written_until_the_end(rt: HostRuntime) -> Result<(), Fail> {
 #[test]
 fn refuses_words_behind_its_code(rt: HostRuntime) -> Result<(), Fail> {
     let mut machine = Machine::new(rt.alloc(), &SHAPE, 1)?;
-    let refused = OutOfCode { end: 2049, size: 2048 };
+    let refused = OutOfCode {
+        end: 2049,
+        size: 2048,
+    };
     assert_eq!(rt; machine.load(2047, &[0, 0]), Err(refused));
     machine.load(2046, &[1, 2])?;
     assert_eq!(rt; machine.code().get(2047).copied(), Some(2));

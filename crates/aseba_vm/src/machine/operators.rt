@@ -5,11 +5,10 @@ ghost use Rattle.aseba_vm.specs.Outcome.{computed};
 ghost use Rattle.aseba_vm.specs.Rows.{unary_row, binary_row};
 ghost use Rattle.aseba_vm.specs.State.{has_room};
 
-use aseba_words::{Binary, Unary, binary, unary};
-
 use crate::machine::Machine;
 use crate::opcode::operand;
 use crate::tick::{NodeFault, Notice, Tick};
+use aseba_words::{Binary, Unary, binary, unary};
 
 impl Machine {
     pub(super) fn unary_operator(&mut self, word: u16) -> Result<Tick, Notice>

@@ -78,7 +78,11 @@ impl Machine {
     pub(super) fn check_room(&self) -> Result<(), Notice>
         ensures { result ≡ (if has_room self.now then Ok tt else Err (Notice.NodeError self.now.pc NodeFault.Stack)) }
     {
-        if self.stack.has_room() { Ok(()) } else { Err(self.fault(NodeFault::Stack)) }
+        if self.stack.has_room() {
+            Ok(())
+        } else {
+            Err(self.fault(NodeFault::Stack))
+        }
     }
 
     /// Pushes a value.

@@ -54,7 +54,7 @@ impl Machine {
             Opcode::Jump => self.jump(word),
             Opcode::Branch => self.branch(word),
             Opcode::Emit => self.emit(word),
-            Opcode::NativeCall => Err(self.fault(NodeFault::Word)),
+            Opcode::NativeCall => self.native_call(word),
             Opcode::SubCall => self.sub_call(word),
             Opcode::SubReturn => self.sub_return(),
             Opcode::NoInstruction => Err(self.fault(NodeFault::Word)),

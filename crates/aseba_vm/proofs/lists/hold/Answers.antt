@@ -1,4 +1,4 @@
-use Rattle.std.proofs.Common.{◌≡◌, ◌+◌, ◌<◌, ◌≤◌, length, map, Some, take, set, get_or, ℤ, pos, to_z, of_z, FitsSigned, ap, sym, ◌∙◌, rules, arith}
+use Rattle.std.proofs.Common.{◌≡◌, map, Some, take, get_or, ℤ, pos, to_z, of_z, FitsSigned, sym, rules, arith}
 use Rattle.std.proofs.lemmas.Int.{to_z-of_z}
 use Rattle.std.specs.Int.{w16}
 use Rattle.aseba_vm.specs.Lists.{overwritten}
