@@ -130,6 +130,53 @@ fn stops_at_a_return_without_a_call(rt: HostRuntime) -> Result<(), Fail> {
 }
 
 #[test]
+fn calls_a_native(rt: HostRuntime) -> Result<(), Fail> {
+    // The number 0 copies cells: to the first variable, from the cell of the id, one cell.
+    let words = [
+        0x0003, 0xffff, 0x0003, 0x2000, 0x0022, 0x2000, 0x0000, 0x1001, 0xc000, 0x0000,
+    ];
+    let mut machine = Machine::new(rt.alloc(), &SHAPE, 9)?;
+    machine.load(0, &words)?;
+    machine.reset(false);
+    assert_eq!(rt; run(&mut machine, 10), 2);
+    assert_eq!(rt; variable(&rt, &machine), 9);
+    machine.load(7, &[0x1000])?;
+    machine.reset(false);
+    assert_eq!(rt; run(&mut machine, 3), 0);
+    let error = Notice::NodeError {
+        pc: 8,
+        fault: NodeFault::Native,
+    };
+    assert_eq!(rt; machine.tick(), Tick::Sent(error));
+    Ok(())
+}
+
+#[test]
+fn stops_at_an_index_and_at_a_divisor(rt: HostRuntime) -> Result<(), Fail> {
+    let mut machine = Machine::new(rt.alloc(), &SHAPE, 1)?;
+    machine.load(
+        0,
+        &[
+            0x0003, 0xffff, 0x0003, 0x1003, 0x4025, 0x1007, 0x3025, 0x6022, 0x0003, 0x0000,
+        ],
+    )?;
+    machine.reset(false);
+    assert_eq!(rt; run(&mut machine, 4), 0);
+    let bounds = Notice::Bounds {
+        pc: 7,
+        size: 3,
+        index: 3,
+    };
+    assert_eq!(rt; machine.tick(), Tick::Sent(bounds));
+    machine.load(3, &[0x1001, 0x4022, 0x3022, 0x1000, 0x8005, 0x4022, 0x0000])?;
+    machine.reset(false);
+    assert_eq!(rt; run(&mut machine, 4), 1);
+    assert_eq!(rt; machine.tick(), Tick::Sent(Notice::Division { pc: 7 }));
+    assert_eq!(rt; variable(&rt, &machine), 1);
+    Ok(())
+}
+
+#[test]
 fn holds_what_is_written_until_the_end(rt: HostRuntime) -> Result<(), Fail> {
     let mut machine = Machine::new(rt.alloc(), &SHAPE, 1)?;
     machine.load(0, &[0x0003, 0xffff, 0x0003, 0x1001, 0x4022, 0x0000])?;
