@@ -1,0 +1,28 @@
+//! What the other rooms speak of: tokens, the tree of a source, its element form, and what a
+//! project says of a node. Plain data, so that contracts see each value as it stands.
+#![tactic(auto)]
+
+mod copies;
+mod core_tree;
+mod decl;
+mod description;
+mod expr;
+mod inside;
+mod pos;
+mod project;
+mod source;
+mod stmt;
+mod token;
+
+pub use core_tree::{Core, CoreExpr, CoreForm, CorePart, CoreStmt, CoreTarget};
+pub use decl::Decl;
+pub use description::{Description, Local, Native, Param, Sized};
+pub use expr::{Expr, Form};
+pub use pos::Pos;
+pub use project::{Const, Project};
+pub use source::{Handler, Source};
+pub use stmt::{ForHead, Part, Stmt, StmtForm, Target};
+pub use token::{Key, Sign, Token, TokenKind};
+
+#[cfg(test)]
+mod tests;
