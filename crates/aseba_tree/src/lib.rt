@@ -1,0 +1,21 @@
+//! What the other rooms speak of: tokens, the tree of a source, its element form, and what a
+//! project says of a node. Plain data, so that contracts see each value as it stands.
+#![tactic(auto)]
+
+mod core_tree;
+mod description;
+mod expr;
+mod pos;
+mod project;
+mod source;
+mod stmt;
+mod token;
+
+pub use core_tree::{Core, CoreExpr, CoreForm, CorePart, CoreStmt, CoreTarget};
+pub use description::{Description, Local, Native, Param, Sized};
+pub use expr::{Expr, Form};
+pub use pos::Pos;
+pub use project::{Const, Project};
+pub use source::{Decl, Handler, Source};
+pub use stmt::{ForHead, Part, Stmt, StmtForm, Target};
+pub use token::{Key, Sign, Token, TokenKind};
