@@ -2,6 +2,7 @@
 //! project says of a node. Plain data, so that contracts see each value as it stands.
 #![tactic(auto)]
 
+mod copies;
 mod core_tree;
 mod description;
 mod expr;

@@ -1,8 +1,11 @@
-use aseba_words::{List, Name};
+ghost use Rattle.std.specs.Prelude.{◌≡◌, IfOk};
 
-use crate::expr::Expr;
+use crate::copies::copies;
+use crate::expr::{Expr, copy_maybe};
 use crate::pos::Pos;
 use crate::stmt::Stmt;
+use aseba_words::{List, Mem, Name};
+use std::alloc::Global;
 
 /// A whole source: its variables, the statements before the first part, and its parts.
 #[derive(Debug, Drop)]
@@ -36,4 +39,52 @@ pub struct Handler {
     pub is_sub: bool,
     pub name: Name,
     pub body: List<Stmt>,
+}
+
+impl Source {
+    /// A source equal to this one.
+    pub fn copy(&self, alloc: Global) -> Result<Source, Mem>
+        ensures { IfOk result (λ source. source ≡ self.now) }
+    {
+        let vars = copies(alloc, &self.vars, |var| var.copy(alloc))?;
+        let init = copies(alloc, &self.init, |stmt| stmt.copy(alloc))?;
+        let parts = copies(alloc, &self.parts, |part| part.copy(alloc))?;
+        Ok(Source { vars, init, parts })
+    }
+}
+
+impl Decl {
+    /// A declaration equal to this one.
+    pub fn copy(&self, alloc: Global) -> Result<Decl, Mem>
+        ensures { IfOk result (λ decl. decl ≡ self.now) }
+    {
+        let name = self.name.copy(alloc)?;
+        let size = copy_maybe(&self.size, alloc)?;
+        let value = copy_maybe(&self.value, alloc)?;
+        Ok(Decl {
+            line: self.line,
+            at: self.at,
+            name,
+            size,
+            equals: self.equals,
+            value,
+        })
+    }
+}
+
+impl Handler {
+    /// A part equal to this one.
+    pub fn copy(&self, alloc: Global) -> Result<Handler, Mem>
+        ensures { IfOk result (λ handler. handler ≡ self.now) }
+    {
+        let name = self.name.copy(alloc)?;
+        let body = copies(alloc, &self.body, |stmt| stmt.copy(alloc))?;
+        Ok(Handler {
+            line: self.line,
+            at: self.at,
+            is_sub: self.is_sub,
+            name,
+            body,
+        })
+    }
 }

@@ -1,6 +1,8 @@
-use aseba_words::Name;
+ghost use Rattle.std.specs.Prelude.{◌≡◌, IfOk};
 
 use crate::pos::Pos;
+use aseba_words::{Mem, Name};
+use std::alloc::Global;
 
 /// A word, number or symbol of a source, with the place of its first byte.
 #[derive(Debug, Drop)]
@@ -85,4 +87,46 @@ pub enum Sign {
     CloseBracket,
     Comma,
     Colon,
+}
+
+impl Token {
+    /// A token equal to this one.
+    pub fn copy(&self, alloc: Global) -> Result<Token, Mem>
+        ensures { IfOk result (λ token. token ≡ self.now) }
+    {
+        let kind = self.kind.copy(alloc)?;
+        Ok(Token { at: self.at, kind })
+    }
+}
+
+impl TokenKind {
+    /// A kind equal to this one.
+    pub fn copy(&self, alloc: Global) -> Result<TokenKind, Mem>
+        ensures { IfOk result (λ kind. kind ≡ self.now) }
+    {
+        match self {
+            TokenKind::Name(name) => Ok(TokenKind::Name(name.copy(alloc)?)),
+            TokenKind::Number(value) => Ok(TokenKind::Number(*value)),
+            TokenKind::Key(key) => Ok(TokenKind::Key(*key)),
+            TokenKind::Sign(sign) => Ok(TokenKind::Sign(*sign)),
+        }
+    }
+}
+
+impl Key {
+    /// This keyword again, as for the types that hold memory. It never fails.
+    pub fn copy(&self, _alloc: Global) -> Result<Key, Mem>
+        ensures { IfOk result (λ key. key ≡ self.now) }
+    {
+        Ok(*self)
+    }
+}
+
+impl Sign {
+    /// This symbol again, as for the types that hold memory. It never fails.
+    pub fn copy(&self, _alloc: Global) -> Result<Sign, Mem>
+        ensures { IfOk result (λ sign. sign ≡ self.now) }
+    {
+        Ok(*self)
+    }
 }
