@@ -6,6 +6,7 @@ mod copies;
 mod core_tree;
 mod description;
 mod expr;
+mod inside;
 mod pos;
 mod project;
 mod source;
