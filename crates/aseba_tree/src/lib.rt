@@ -4,6 +4,7 @@
 
 mod copies;
 mod core_tree;
+mod decl;
 mod description;
 mod expr;
 mod inside;
@@ -14,10 +15,14 @@ mod stmt;
 mod token;
 
 pub use core_tree::{Core, CoreExpr, CoreForm, CorePart, CoreStmt, CoreTarget};
+pub use decl::Decl;
 pub use description::{Description, Local, Native, Param, Sized};
 pub use expr::{Expr, Form};
 pub use pos::Pos;
 pub use project::{Const, Project};
-pub use source::{Decl, Handler, Source};
+pub use source::{Handler, Source};
 pub use stmt::{ForHead, Part, Stmt, StmtForm, Target};
 pub use token::{Key, Sign, Token, TokenKind};
+
+#[cfg(test)]
+mod tests;

@@ -1,4 +1,4 @@
-ghost use Rattle.std.specs.Prelude.{◌≡◌, IfOk};
+ghost use Rattle.std.specs.Prelude.{◌≡◌};
 
 use aseba_words::Mem;
 use std::alloc::Global;
@@ -13,7 +13,7 @@ pub struct Pos {
 impl Pos {
     /// This place again, as for the types that hold memory. It never fails.
     pub fn copy(&self, _alloc: Global) -> Result<Pos, Mem>
-        ensures { IfOk result (λ at. at ≡ self.now) }
+        ensures { result ≡ Ok self.now }
     {
         Ok(*self)
     }

@@ -1,7 +1,7 @@
 ghost use Rattle.std.specs.Prelude.{◌≡◌, IfOk};
 
 use crate::copies::copies;
-use crate::expr::{Expr, copy_maybe};
+use crate::decl::Decl;
 use crate::pos::Pos;
 use crate::stmt::Stmt;
 use aseba_words::{List, Mem, Name};
@@ -13,20 +13,6 @@ pub struct Source {
     pub vars: List<Decl>,
     pub init: List<Stmt>,
     pub parts: List<Handler>,
-}
-
-/// A `var`.
-#[derive(Debug, Drop)]
-pub struct Decl {
-    /// The line of the word `var`.
-    pub line: u32,
-    /// The place of the name.
-    pub at: Pos,
-    pub name: Name,
-    pub size: Option<Expr>,
-    /// The place of the `=`, or `at` where there is none.
-    pub equals: Pos,
-    pub value: Option<Expr>,
 }
 
 /// An `onevent` or a `sub`.
@@ -50,25 +36,6 @@ impl Source {
         let init = copies(alloc, &self.init, |stmt| stmt.copy(alloc))?;
         let parts = copies(alloc, &self.parts, |part| part.copy(alloc))?;
         Ok(Source { vars, init, parts })
-    }
-}
-
-impl Decl {
-    /// A declaration equal to this one.
-    pub fn copy(&self, alloc: Global) -> Result<Decl, Mem>
-        ensures { IfOk result (λ decl. decl ≡ self.now) }
-    {
-        let name = self.name.copy(alloc)?;
-        let size = copy_maybe(&self.size, alloc)?;
-        let value = copy_maybe(&self.value, alloc)?;
-        Ok(Decl {
-            line: self.line,
-            at: self.at,
-            name,
-            size,
-            equals: self.equals,
-            value,
-        })
     }
 }
 

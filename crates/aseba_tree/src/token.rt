@@ -116,7 +116,7 @@ impl TokenKind {
 impl Key {
     /// This keyword again, as for the types that hold memory. It never fails.
     pub fn copy(&self, _alloc: Global) -> Result<Key, Mem>
-        ensures { IfOk result (λ key. key ≡ self.now) }
+        ensures { result ≡ Ok self.now }
     {
         Ok(*self)
     }
@@ -125,7 +125,7 @@ impl Key {
 impl Sign {
     /// This symbol again, as for the types that hold memory. It never fails.
     pub fn copy(&self, _alloc: Global) -> Result<Sign, Mem>
-        ensures { IfOk result (λ sign. sign ≡ self.now) }
+        ensures { result ≡ Ok self.now }
     {
         Ok(*self)
     }
