@@ -1,0 +1,4 @@
+//! What a source means.
+#![tactic(auto)]
+
+mod laws;
