@@ -1,5 +1,7 @@
 pub mod Arrival
 pub mod Code
+pub mod Core
+pub mod CoreStep
 pub mod Line
 pub mod Lines
 pub mod Script

@@ -123,13 +123,14 @@ pub data Argument : Type 0 where
   own : Name → (place : ℕ) → Argument
   fresh : List ℤ → Argument
 
+-- a name alone is a variable or a constant
+abbrev pub whole_argument : Result (List ℤ) Stop → Name → Option (List ℤ) → Result Argument Stop
+whole_argument computed name (Some _) = Ok (own name 0)
+whole_argument computed name None = and_then computed (λ vs. Ok (fresh vs))
+
 -- a whole variable and a range stand for their own cells, and anything else for fresh cells
 abbrev pub argument_form : List Const → Cells → Result (List ℤ) Stop → Form → Result Argument Stop
-argument_form consts cells computed (whole name) = whole_argument (cells_of cells name)
-  where
-    whole_argument : Option (List ℤ) → Result Argument Stop
-    whole_argument (Some _) = Ok (own name 0)
-    whole_argument None = and_then computed (λ vs. Ok (fresh vs))
+argument_form consts cells computed (whole name) = whole_argument computed name (cells_of cells name)
 argument_form consts cells computed (range name c d) = Ok (own name (as_place (constant consts c)))
 argument_form consts cells computed _ = and_then computed (λ vs. Ok (fresh vs))
 
@@ -172,11 +173,7 @@ native_place project name = position_or_len (λ native. bytes_eq native.name nam
 
 -- the parameters of the native of a name
 abbrev pub native_sizes : Project → Name → List ℤ
-native_sizes project name = params (slice_get project.node.natives (native_place project name))
-  where
-    params : Option Native → List ℤ
-    params None = []
-    params (Some native) = map (λ p. p.size) native.params
+native_sizes project name = unwrap_or (option_map (λ native. map (λ p. p.size) native.params) (slice_get project.node.natives (native_place project name))) []
 
 -- A native is known where the row of its place has the sizes of its parameters.
 abbrev pub IsKnown : Project → Name → Type 0
@@ -280,10 +277,19 @@ task_line (next line before head body) = line
 task_line (back line) = line
 task_line (finish line) = line
 
+abbrev pub work_line : List Task → ℕ
+work_line [] = 0
+work_line (task ∷ rest) = task_line task
+
 -- the line of the effect that is next
 abbrev pub next_line : State → ℕ
-next_line s = first_line s.work
-  where
-    first_line : List Task → ℕ
-    first_line [] = 0
-    first_line (task ∷ rest) = task_line task
+next_line s = work_line s.work
+
+-- the native that the first task of a work calls
+abbrev pub task_native : List Task → Option Name
+task_native (perform before (stmt line place (call name es)) ∷ rest) = Some name
+task_native _ = None
+
+-- the native that the next step calls
+abbrev pub next_native : State → Option Name
+next_native s = if is_running s then task_native s.work else None
