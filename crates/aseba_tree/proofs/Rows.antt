@@ -48,23 +48,23 @@ abbrev t : ℤ
 t = negsuc 0
 
 abbrev project : Project
-project = record
-  { node = record
-    { name = codes "sim"
-    ; code = 2048
-    ; stack = 64
-    ; cells = 1024
-    ; variables = record { name = codes "_id"; size = 1 } ∷ record { name = codes "event.source"; size = 1 } ∷ record { name = codes "event.args"; size = 32 } ∷ []
-    ; locals = []
-    ; natives =
+project = record {
+  node = record {
+    name = codes "sim";
+    code = 2048;
+    stack = 64;
+    cells = 1024;
+    variables = record { name = codes "_id"; size = 1 } ∷ record { name = codes "event.source"; size = 1 } ∷ record { name = codes "event.args"; size = 32 } ∷ [];
+    locals = [];
+    natives =
         native (codes "math.copy") (t ∷ t ∷ []) ∷ native (codes "math.fill") (t ∷ pos 1 ∷ []) ∷ native (codes "math.addscalar") (t ∷ t ∷ pos 1 ∷ [])
         ∷ native (codes "math.add") (t ∷ t ∷ t ∷ []) ∷ native (codes "math.sub") (t ∷ t ∷ t ∷ []) ∷ native (codes "math.mul") (t ∷ t ∷ t ∷ [])
-        ∷ native (codes "math.div") (t ∷ t ∷ t ∷ []) ∷ []
-    }
-  ; id = 1
-  ; events = record { name = codes "ping"; size = 0 } ∷ record { name = codes "pong"; size = 0 } ∷ record { name = codes "pair"; size = 2 } ∷ []
-  ; consts = []
-  }
+        ∷ native (codes "math.div") (t ∷ t ∷ t ∷ []) ∷ [];
+  };
+  id = 1;
+  events = record { name = codes "ping"; size = 0 } ∷ record { name = codes "pong"; size = 0 } ∷ record { name = codes "pair"; size = 2 } ∷ [];
+  consts = [];
+}
 
 abbrev program : List Decl → List Stmt → List Handler → Program
 program vars init parts = record { project = project; source = record { vars = vars; init = block init; parts = parts } }
@@ -135,12 +135,12 @@ pair = codes "pair"
 abbrev when_edge : Program
 when_edge = program (decl 1 (codes "n") None None ∷ []) []
     (onevent 2 pair
-        (st 3 (when_do (ex (two Equal (at_index (codes "event.args") 0) (num 1)))
-            (block (st 4 (change (record { place = spot; name = codes "n"; part = all }) Add (num 1)) ∷ []))) ∷ []) ∷ [])
+    (st 3 (when_do (ex (two Equal (at_index (codes "event.args") 0) (num 1)))
+    (block (st 4 (change (record { place = spot; name = codes "n"; part = all }) Add (num 1)) ∷ []))) ∷ []) ∷ [])
 
 when-edge : lines_of when_edge
     (event 10 pair (pos 0 ∷ []) ∷ event 30 pair (pos 1 ∷ []) ∷ event 50 pair (pos 1 ∷ []) ∷ event 70 pair (pos 0 ∷ []) ∷ event 90 pair (pos 1 ∷ []) ∷ [])
-    (beats (codes "#............##..................#...##..............##..................##..................#...##..........." )) ≡
+    (beats (codes "#............##..................#...##..............##..................##..................#...##...........")) ≡
     told 10 1 (began (named pair)) ∷ told 30 3 (began (named pair)) ∷ told 50 6 (began (named pair)) ∷ told 70 8 (began (named pair))
     ∷ told 90 10 (began (named pair)) ∷ var (codes "n") (pos 2 ∷ []) ∷ end 110 13 ∷ []
 unfolding int_wrap loaded step
@@ -148,7 +148,7 @@ when-edge = refl
 
 -- var a[3] / var i = 3 / a[i] = 7
 bounds-stop : lines_of (program (decl 1 a (Some (num 3)) None ∷ decl 2 (codes "i") None (Some (num 3)) ∷ [])
-        (st 3 (assign (record { place = spot; name = a; part = at (name (codes "i")) }) (num 7)) ∷ []) [])
+    (st 3 (assign (record { place = spot; name = a; part = at (name (codes "i")) }) (num 7)) ∷ []) [])
     [] (beats (codes ".#..#.....")) ≡
     told 4 2 (bounds 3 3 (pos 3)) ∷ var a (pos 0 ∷ pos 0 ∷ pos 0 ∷ []) ∷ var (codes "i") (pos 3 ∷ []) ∷ end 10 2 ∷ []
 unfolding int_wrap loaded step
@@ -180,7 +180,7 @@ held-write-applied = refl
 
 -- var i / for i in 1:2 do / end
 for-loop : lines_of (program (decl 1 (codes "i") None None ∷ [])
-        (st 2 (for_do (record { name = codes "i"; first = num 1; last = num 2; step = None }) no_stmts) ∷ []) [])
+    (st 2 (for_do (record { name = codes "i"; first = num 1; last = num 2; step = None }) no_stmts) ∷ []) [])
     [] (beats (codes ".#..#...##..#...##..##........")) ≡
     var (codes "i") (pos 3 ∷ []) ∷ end 30 9 ∷ []
 unfolding int_wrap loaded step
@@ -188,7 +188,7 @@ for-loop = refl
 
 -- var x / callsub s / sub s / x = 5
 sub-call : lines_of (program (decl 1 x None None ∷ []) (st 2 (callsub (codes "s")) ∷ [])
-        (record { line = 3; place = spot; is_sub = true; name = codes "s"; body = block (store 4 x (num 5) ∷ []) } ∷ []))
+    (record { line = 3; place = spot; is_sub = true; name = codes "s"; body = block (store 4 x (num 5) ∷ []) } ∷ []))
     [] (beats (codes "#.###.....")) ≡
     var x (pos 5 ∷ []) ∷ end 10 4 ∷ []
 unfolding int_wrap loaded step
@@ -196,15 +196,15 @@ sub-call = refl
 
 -- var a[2] = [6,6] / var b[2] = [2,0] / call math.div(a, a, b)
 native-division : lines_of (program (decl 1 a (Some (num 2)) (Some (list (num 6) (num 6))) ∷ decl 2 (codes "b") (Some (num 2)) (Some (list (num 2) (num 0))) ∷ [])
-        (st 3 (call (codes "math.div") (exprs (name a) (exprs (name a) (exprs (name (codes "b")) no_exprs)))) ∷ []) [])
-    [] (beats (codes ".....#.#.....#.#....#......................................." )) ≡
+    (st 3 (call (codes "math.div") (exprs (name a) (exprs (name a) (exprs (name (codes "b")) no_exprs)))) ∷ []) [])
+    [] (beats (codes ".....#.#.....#.#....#.......................................")) ≡
     told 20 5 (division 3) ∷ var a (pos 3 ∷ pos 6 ∷ []) ∷ var (codes "b") (pos 2 ∷ pos 0 ∷ []) ∷ end 60 5 ∷ []
 unfolding int_wrap loaded step
 native-division = refl
 
 -- var x = 1 / onevent pair / x = x + event.args[0]
 ignored-event : lines_of (program (decl 1 x None (Some (num 1)) ∷ []) []
-        (onevent 2 pair (store 3 x (ex (two Add (name x) (at_index (codes "event.args") 0))) ∷ []) ∷ []))
+    (onevent 2 pair (store 3 x (ex (two Add (name x) (at_index (codes "event.args") 0))) ∷ []) ∷ []))
     (event 10 pair (pos 4 ∷ pos 0 ∷ []) ∷ event 11 (codes "pong") (pos 9 ∷ []) ∷ []) (beats (codes ".##...........##....")) ≡
     told 10 2 (began (named pair)) ∷ told 11 2 (ignored (named (codes "pong"))) ∷ var x (pos 5 ∷ []) ∷ end 20 4 ∷ []
 unfolding int_wrap loaded step

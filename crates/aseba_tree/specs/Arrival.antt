@@ -24,11 +24,11 @@ in_node project name values cells = if list_any (λ v. bytes_eq v.name name) pro
 
 -- the state in which a handler begins, with its event's source and arguments
 abbrev pub begun : Program → State → ℕ × Handler → (source : ℕ) → (args : List ℤ) → State
-begun program s found source args = record s
-  { cells = in_node program.project (codes "event.args") args (in_node program.project (codes "event.source") (wrapped (pos source) ∷ []) s.cells)
-  ; active = true
-  ; work = tasks found.0 (found.1).body ++ finish (found.1).line ∷ []
-  }
+begun program s found source args = record s {
+  cells = in_node program.project (codes "event.args") args (in_node program.project (codes "event.source") (wrapped (pos source) ∷ []) s.cells);
+  active = true;
+  work = tasks found.0 (found.1).body ++ finish (found.1).line ∷ [];
+}
 
 -- the handler of an event, with the number of `when`s before it
 abbrev pub handler_of : Program → Event → Option (ℕ × Handler)

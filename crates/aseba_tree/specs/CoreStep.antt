@@ -84,23 +84,29 @@ core_going_on s first = record { state = record s { work = first ++ s.work }; re
 abbrev pub core_stopped : ℕ → CoreState → Stop → CoreStepped
 core_stopped line s stop = record { state = record (core_ended s) { paused = true }; report = Some (stop_report line stop) }
 
-abbrev pub core_computed : {A : Type 0} → ℕ → CoreState → Result A Stop → (A → CoreStepped) → CoreStepped
-core_computed line s (Err stop) go_on = core_stopped line s stop
-core_computed line s (Ok a) go_on = go_on a
-
 abbrev pub core_stored : CoreState → ℕ → ℤ → CoreState
 core_stored s address v = record s { cells = slice_set s.cells address v }
 
--- a test of one cell: the tasks for true or those for false follow
-abbrev pub core_tested : CoreState → Bool → List CoreTask → List CoreTask → CoreStepped
-core_tested s truth then_tasks else_tasks = core_going_on s (if truth then then_tasks else else_tasks)
+-- a store of what its expression computes at the address that its target means
+abbrev pub core_storing : ℕ → CoreState → Element → Result ℕ Stop → CoreStepped
+core_storing line s (Err stop) address = core_stopped line s stop
+core_storing line s (Ok v) (Err stop) = core_stopped line s stop
+core_storing line s (Ok v) (Ok address) = core_going_on (core_stored s address v) []
+
+-- a test with what its condition computes: the tasks for true or those for false follow
+abbrev pub core_tested : ℕ → CoreState → Element → List CoreTask → List CoreTask → CoreStepped
+core_tested line s (Err stop) then_tasks else_tasks = core_stopped line s stop
+core_tested line s (Ok v) then_tasks else_tasks = core_going_on s (if is_true v then then_tasks else else_tasks)
 
 abbrev pub core_leaving : ℕ → CoreStmts → List CoreTask
 core_leaving line no_core = []
 core_leaving line (core_stmts _ _) = leave_core line ∷ []
 
-abbrev pub core_edge : CoreState → ℕ → Bool → List CoreTask → CoreStepped
-core_edge s which truth body = core_tested (record s { bits = slice_set s.bits which truth }) (truth && not (slice_index_or s.bits which false)) body []
+-- the test of the `when` of a number
+abbrev pub core_edge : ℕ → CoreState → ℕ → Element → List CoreTask → CoreStepped
+core_edge line s which (Err stop) body = core_stopped line s stop
+core_edge line s which (Ok v) body =
+    core_going_on (record s { bits = slice_set s.bits which (is_true v) }) (if is_true v && not (slice_index_or s.bits which false) then body else [])
 
 -- the event of a number: by its name where the project has it
 abbrev pub event_numbered : Project → ℕ → Event
@@ -111,7 +117,7 @@ abbrev pub event_number : Project → Event → Option ℕ
 event_number project (numbered n) = Some n
 event_number project (named name) =
     option_or (position (λ event. bytes_eq event.name name) project.events)
-        (option_map (λ i. 0xFFFE - i) (position (λ event. bytes_eq event.name name) project.node.locals))
+    (option_map (λ i. 0xFFFE - i) (position (λ event. bytes_eq event.name name) project.node.locals))
 
 -- how many `when`s stand before the part of a place
 abbrev pub whens_before : Core → ℕ → ℕ
@@ -135,7 +141,7 @@ abbrev pub core_native : ℕ → List ℕ → List ℤ → Bool × List ℤ
 core_native id values cells =
     let count = length (unwrap_or (native_params id) []) in
     native_run (λ s address k. slice_index_or s (address + k) (pos 0)) (λ s address k v. slice_set s (address + k) v) id (take count values)
-        (slice_index_or values count 0) cells
+    (slice_index_or values count 0) cells
 
 abbrev pub core_after_native : ℕ → CoreState → Bool × List ℤ → CoreStepped
 core_after_native line s result =
@@ -144,16 +150,12 @@ core_after_native line s result =
 
 -- the first task of a work whose rest the state has
 abbrev pub core_performed : CoreProgram → CoreState → ℕ → ℕ → CoreForm → CoreStepped
-core_performed program s before line (store target e) =
-    core_computed line s (core_value s.cells e) (λ v. core_computed line s (target_address s.cells target) (λ address. core_going_on (core_stored s address v) []))
+core_performed program s before line (store target e) = core_storing line s (core_value s.cells e) (target_address s.cells target)
 core_performed program s before line (branch c body other) =
-    core_computed line s (core_value s.cells c) (λ v.
-        core_tested s (is_true v) (core_tasks before body ++ core_leaving line other) (core_tasks (before + core_list_whens body) other))
-core_performed program s before line (on_edge c body) =
-    core_computed line s (core_value s.cells c) (λ v. core_edge s before (is_true v) (core_tasks (suc before) body))
+    core_tested line s (core_value s.cells c) (core_tasks before body ++ core_leaving line other) (core_tasks (before + core_list_whens body) other)
+core_performed program s before line (on_edge c body) = core_edge line s before (core_value s.cells c) (core_tasks (suc before) body)
 core_performed program s before line (loop c body) =
-    core_computed line s (core_value s.cells c) (λ v.
-        core_tested s (is_true v) (core_tasks before body ++ turn_core (perform_core before (core_stmt line (loop c body))) ∷ []) [])
+    core_tested line s (core_value s.cells c) (core_tasks before body ++ turn_core (perform_core before (core_stmt line (loop c body))) ∷ []) []
 core_performed program s before line (send event address length) =
     record { state = s; report = Some (sent (event_numbered program.project event) (slice_range s.cells address (address + length))) }
 core_performed program s before line (enter which) = core_going_on s (entered program.core which (slice_get program.core.parts which))
@@ -172,13 +174,14 @@ abbrev pub temporary : (cells : ℕ) → CoreTask → Option (ℕ × ℕ × Core
 temporary cells (perform_core before (core_stmt line (store (into address) e))) = if nat_le cells address then Some (line, address, e) else None
 temporary cells _ = None
 
--- a store into a temporary, and then what follows it
-abbrev pub with_temporary : CoreState → ℕ × ℕ × CoreExpr → (CoreState → CoreStepped) → CoreStepped
-with_temporary s t go_on = core_computed t.0 s (core_value s.cells t.2) (λ v. go_on (core_stored s t.1 v))
+-- a store into a temporary with what its expression computes, and then what follows it
+abbrev pub with_temporary : ℕ → CoreState → ℕ → Element → (CoreState → CoreStepped) → CoreStepped
+with_temporary line s address (Err stop) go_on = core_stopped line s stop
+with_temporary line s address (Ok v) go_on = go_on (core_stored s address v)
 
 abbrev pub core_task_done : CoreProgram → CoreState → CoreTask → List CoreTask → Option (ℕ × ℕ × CoreExpr) → (CoreState → CoreStepped) → CoreStepped
 core_task_done program s task rest None go_on = core_done program (record s { work = rest }) task
-core_task_done program s task rest (Some t) go_on = with_temporary s t go_on
+core_task_done program s task rest (Some t) go_on = with_temporary t.0 s t.1 (core_value s.cells t.2) go_on
 
 -- Stores into temporaries are no effect of their own: they are done with the effect behind them.
 abbrev pub core_first_done : CoreProgram → CoreState → List CoreTask → CoreStepped
@@ -231,15 +234,15 @@ put_into (Some v) first values cells = put_from cells (v.0 + first) (take (v.1 -
 unfoldable pub core_loaded : CoreProgram → CoreState
 core_loaded program =
     let cells = put_into (address_of program.project.node.variables (codes "_id")) 0 (wrapped (pos program.project.id) ∷ [])
-            (replicate (program.core.cells + program.core.room) (pos 0)) in
-    record
-      { cells = cells
-      ; bits = replicate (whens_before program.core (length program.core.parts)) false
-      ; held = core_none_held cells
-      ; active = true
-      ; paused = false
-      ; work = core_tasks 0 program.core.init ++ finish_core 1 ∷ []
-      }
+    (replicate (program.core.cells + program.core.room) (pos 0)) in
+    record {
+      cells = cells;
+      bits = replicate (whens_before program.core (length program.core.parts)) false;
+      held = core_none_held cells;
+      active = true;
+      paused = false;
+      work = core_tasks 0 program.core.init ++ finish_core 1 ∷ [];
+    }
 
 -- a write from outside: at once where no handler is active, else held
 abbrev pub core_write : CoreProgram → CoreState → Name → (first : ℕ) → (values : List ℤ) → CoreState
@@ -251,11 +254,11 @@ core_write program s name first values =
 abbrev pub core_begun : CoreProgram → CoreState → ℕ × CorePart → (source : ℕ) → (args : List ℤ) → CoreState
 core_begun program s found source args =
     let node = program.project.node.variables in
-    record s
-      { cells = put_into (address_of node (codes "event.args")) 0 args (put_into (address_of node (codes "event.source")) 0 (wrapped (pos source) ∷ []) s.cells)
-      ; active = true
-      ; work = core_tasks found.0 (found.1).body ++ finish_core (found.1).line ∷ []
-      }
+    record s {
+      cells = put_into (address_of node (codes "event.args")) 0 args (put_into (address_of node (codes "event.source")) 0 (wrapped (pos source) ∷ []) s.cells);
+      active = true;
+      work = core_tasks found.0 (found.1).body ++ finish_core (found.1).line ∷ [];
+    }
 
 -- a part handles the event of that number
 abbrev pub handles : ℕ → CorePart → Bool

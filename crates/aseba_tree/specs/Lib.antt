@@ -2,8 +2,10 @@ pub mod Arrival
 pub mod Code
 pub mod Core
 pub mod CoreStep
+pub mod Laws
 pub mod Line
 pub mod Lines
+pub mod Moves
 pub mod Script
 pub mod State
 pub mod Step

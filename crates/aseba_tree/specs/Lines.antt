@@ -80,12 +80,12 @@ is_beginning _ = false
 abbrev pub moment : Program → Script → Run → Bool → Moment
 moment program script run beat =
     let before = all_acting program (record run { lines = [] }) (actions_at script run.ticks) in
-    record
-      { begins = list_any is_beginning before.lines
-      ; runs = is_running before.state
-      ; steps = beat
-      ; calls = if beat then next_native before.state else None
-      }
+    record {
+      begins = list_any is_beginning before.lines;
+      runs = is_running before.state;
+      steps = beat;
+      calls = if beat then next_native before.state else None;
+    }
 
 abbrev pub moments_from : Program → Script → Run → List Bool → List Moment
 moments_from program script run [] = []

@@ -105,11 +105,11 @@ unfoldable pub loaded : Program → State
 loaded program =
     let node = put_cell (zeros (node_variables program.project)) (codes "_id") 0 (wrapped (pos program.project.id)) in
     let cells = node ++ zeros (declared program) in
-    record
-      { cells = cells
-      ; bits = replicate (all_whens program.source) false
-      ; held = none_held cells
-      ; active = true
-      ; paused = false
-      ; work = tasks 0 (init_code program.source) ++ finish 1 ∷ []
-      }
+    record {
+      cells = cells;
+      bits = replicate (all_whens program.source) false;
+      held = none_held cells;
+      active = true;
+      paused = false;
+      work = tasks 0 (init_code program.source) ++ finish 1 ∷ [];
+    }

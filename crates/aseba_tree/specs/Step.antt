@@ -39,11 +39,6 @@ stop_report line (outside size i) = bounds line size i
 abbrev pub stopped : ℕ → State → Stop → Stepped
 stopped line s stop = record { state = record (ended s) { paused = true }; report = Some (stop_report line stop) }
 
--- what a statement of a line does with what it computed, where nothing stopped it
-abbrev pub computed : {A : Type 0} → ℕ → State → Result A Stop → (A → Stepped) → Stepped
-computed line s (Err stop) go_on = stopped line s stop
-computed line s (Ok a) go_on = go_on a
-
 -- one cell stored
 abbrev pub stored : State → Name → ℕ → ℤ → State
 stored s name place v = record s { cells = put_cell s.cells name place v }
@@ -80,19 +75,25 @@ abbrev pub storing : ℕ → State → Name → List (ℕ × ℤ) → Stepped
 storing line s name [] = going_on s []
 storing line s name (p ∷ ps) = going_on (stored s name p.0 p.1) (map (λ q. put line name q.0 q.1) ps)
 
--- `L = e`: the cells of e come first, then the index of L and its check
-abbrev pub assigned : List Const → ℕ → State → Target → Expr → Stepped
-assigned consts line s target e =
-    computed line s (value consts s.cells e) (λ cells. computed line s (places consts s.cells target) (λ ps. storing line s target.name (zip ps cells)))
+-- an assignment: the cells come first, then the places where they are stored
+abbrev pub assigned : ℕ → State → Name → Result (List ℤ) Stop → Result (List ℕ) Stop → Stepped
+assigned line s name (Err stop) places = stopped line s stop
+assigned line s name (Ok cells) (Err stop) = stopped line s stop
+assigned line s name (Ok cells) (Ok places) = storing line s name (zip places cells)
+
+-- `L = e`
+abbrev pub assignment_done : List Const → ℕ → State → Target → Expr → Stepped
+assignment_done consts line s target e = assigned line s target.name (value consts s.cells e) (places consts s.cells target)
 
 -- a condition's cell is true
 abbrev pub holds : List ℤ → Bool
 holds [] = false
 holds (v ∷ vs) = is_true v
 
--- a test: the tasks for true or those for false follow
-abbrev pub tested : State → Bool → List Task → List Task → Stepped
-tested s truth then_tasks else_tasks = going_on s (if truth then then_tasks else else_tasks)
+-- a test with what its condition computes: the tasks for true or those for false follow
+abbrev pub tested : ℕ → State → Result (List ℤ) Stop → List Task → List Task → Stepped
+tested line s (Err stop) then_tasks else_tasks = stopped line s stop
+tested line s (Ok cells) then_tasks else_tasks = going_on s (if holds cells then then_tasks else else_tasks)
 
 -- the end of a branch that has another behind it
 abbrev pub leaving : ℕ → Stmts → List Task
@@ -100,8 +101,10 @@ leaving line no_stmts = []
 leaving line (stmts _ _) = leave line ∷ []
 
 -- the test of the `when` of a number: its bit becomes the truth, and its body follows where it was false before
-abbrev pub edge : State → ℕ → Bool → List Task → Stepped
-edge s which truth body = tested (record s { bits = slice_set s.bits which truth }) (truth && not (slice_index_or s.bits which false)) body []
+abbrev pub edge : ℕ → State → ℕ → Result (List ℤ) Stop → List Task → Stepped
+edge line s which (Err stop) body = stopped line s stop
+edge line s which (Ok cells) body =
+    going_on (record s { bits = slice_set s.bits which (holds cells) }) (if holds cells && not (slice_index_or s.bits which false) then body else [])
 
 -- the step of a `for`
 abbrev pub step_of : List Const → Option Expr → ℤ
@@ -190,12 +193,15 @@ after_native line s result =
     let t : State = record s { cells = (result.1).0 } in
     if result.0 then stopped line t by_zero else going_on t []
 
+-- the cells and arguments after the row of a native's place in the project's list, and whether a zero divisor stopped it
+abbrev pub native_done : Project → Cells → Name → List Argument → List ℕ → Bool × Store
+native_done project cells name passed sizes =
+    native_run get put_in (native_place project name) (range_with_len 0 (length passed)) (template_length (native_sizes project name) sizes) (cells, passed)
+
 -- The call of a native. Of one that isn't known nothing is promised: it does what the row of its place does, and nothing where there is no such row.
-abbrev pub called : Project → ℕ → State → Name → Exprs → Stepped
-called project line s name es =
-    computed line s (arguments project.consts s.cells es) (λ passed.
-        after_native line s (native_run get put_in (native_place project name) (range_with_len 0 (length passed))
-            (template_length (native_sizes project name) (argument_sizes project.consts s.cells es)) (s.cells, passed)))
+abbrev pub called : Project → ℕ → State → Name → Result (List Argument) Stop → List ℕ → Stepped
+called project line s name (Err stop) sizes = stopped line s stop
+called project line s name (Ok passed) sizes = after_native line s (native_done project s.cells name passed sizes)
 
 -- Subroutines
 
@@ -219,25 +225,29 @@ abbrev pub emitted_cells : List Const → Cells → Option Expr → Result (List
 emitted_cells consts cells None = Ok []
 emitted_cells consts cells (Some e) = value consts cells e
 
+-- an event is sent with its cells
+abbrev pub emitted : ℕ → State → Name → Result (List ℤ) Stop → Stepped
+emitted line s name (Err stop) = stopped line s stop
+emitted line s name (Ok cells) = record { state = s; report = Some (sent (named name) cells) }
+
 -- The first task of a work whose rest the state has. A statement is given with the number of `when`s before it, its line and its place.
 abbrev pub performed : Program → State → ℕ → ℕ → Place → StmtForm → Stepped
-performed program s before line place (assign target e) = assigned program.project.consts line s target e
-performed program s before line place (change target op e) = assigned program.project.consts line s target (changed target op place e)
+performed program s before line place (assign target e) = assignment_done program.project.consts line s target e
+performed program s before line place (change target op e) = assignment_done program.project.consts line s target (changed target op place e)
 performed program s before line place (bump target op) =
     let size = length (elements program.project.consts s.cells (target_expr target)) in
-    assigned program.project.consts line s target (changed target op place (expr place place (items (ones place size))))
+    assignment_done program.project.consts line s target (changed target op place (expr place place (items (ones place size))))
 performed program s before line place (if_then c body other) =
-    computed line s (value program.project.consts s.cells c) (λ v. tested s (holds v) (tasks before body ++ leaving line other) (tasks (before + list_whens body) other))
-performed program s before line place (when_do c body) =
-    computed line s (value program.project.consts s.cells c) (λ v. edge s before (holds v) (tasks (suc before) body))
+    tested line s (value program.project.consts s.cells c) (tasks before body ++ leaving line other) (tasks (before + list_whens body) other)
+performed program s before line place (when_do c body) = edge line s before (value program.project.consts s.cells c) (tasks (suc before) body)
 performed program s before line place (while_do c body) =
-    computed line s (value program.project.consts s.cells c) (λ v. tested s (holds v) (tasks before body ++ turn (perform before (stmt line place (while_do c body))) ∷ []) [])
+    tested line s (value program.project.consts s.cells c) (tasks before body ++ turn (perform before (stmt line place (while_do c body))) ∷ []) []
 performed program s before line place (for_do head body) =
     going_on (stored s head.name 0 (constant program.project.consts head.first)) (try line before head body ∷ [])
-performed program s before line place (emit name e) =
-    computed line s (emitted_cells program.project.consts s.cells e) (λ cells. record { state = s; report = Some (sent (named name) cells) })
+performed program s before line place (emit name e) = emitted line s name (emitted_cells program.project.consts s.cells e)
 performed program s before line place (callsub name) = going_on s (sub_tasks (part_named program.source true name))
-performed program s before line place (call name es) = called program.project line s name es
+performed program s before line place (call name es) =
+    called program.project line s name (arguments program.project.consts s.cells es) (argument_sizes program.project.consts s.cells es)
 performed program s before line place return = returned s (behind_back s.work)
 
 abbrev pub done : Program → State → Task → Stepped
@@ -246,8 +256,8 @@ done program s (put line name place v) = going_on (stored s name place v) []
 done program s (leave line) = going_on s []
 done program s (turn loop) = going_on s (loop ∷ [])
 done program s (try line before head body) =
-    tested s (is_within (step_of program.project.consts head.step) (scalar s.cells head.name) (constant program.project.consts head.last))
-        (tasks before body ++ next line before head body ∷ []) []
+    going_on s (if is_within (step_of program.project.consts head.step) (scalar s.cells head.name) (constant program.project.consts head.last)
+    then tasks before body ++ next line before head body ∷ [] else [])
 done program s (next line before head body) =
     going_on (stored s head.name 0 (wrapped (scalar s.cells head.name +ℤ step_of program.project.consts head.step))) (turn (try line before head body) ∷ [])
 done program s (back line) = going_on s []
