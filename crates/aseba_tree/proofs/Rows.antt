@@ -1,9 +1,9 @@
 -- Runs whose lines were worked out by hand, with the beats of the code of their sources: the definitions compute the same lines.
-use Rattle.std.specs.Prelude.{◌≡◌, refl, ℕ, ◌==◌, ℤ, pos, negsuc, Bool, true, false, List, [], ◌∷◌, ◌++◌, map, take, replicate, Option, Some, None, codes}
-use Rattle.std.specs.Int.{int_wrap, w16}
+use Rattle.std.specs.Prelude.{◌≡◌, refl, ℕ, ◌==◌, ℤ, pos, negsuc, Bool, true, false, List, [], ◌∷◌, map, take, Option, Some, None, codes}
+use Rattle.std.specs.Int.{int_wrap}
 use Rattle.aseba_words.specs.declared.operators.Binary.TheVariants.{Add, Div, Equal}
-use Rattle.aseba_tree.specs.Code.{Name, Place, Expr, expr, Form, number, whole, index, range, items, one, two, Exprs, no_exprs, exprs, all, at, span, Target, ForHead, Stmt, stmt, StmtForm, assign, change, bump, if_then, when_do, while_do, for_do, emit, callsub, call, return, Stmts, no_stmts, stmts, Decl, Handler, Source, Native, Project}
-use Rattle.aseba_tree.specs.Line.{named, began, ignored, dropped, killed, was_set, sent, division, bounds, Line, told, var, end}
+use Rattle.aseba_tree.specs.Code.{Name, Place, Expr, expr, Form, number, whole, index, items, two, no_exprs, exprs, all, at, Stmt, stmt, StmtForm, assign, change, when_do, for_do, emit, callsub, call, Stmts, no_stmts, stmts, Decl, Handler, Native, Project}
+use Rattle.aseba_tree.specs.Line.{named, began, ignored, killed, was_set, sent, division, bounds, told, var, end}
 use Rattle.aseba_tree.specs.Script.{Entry, arrives, sets, Script}
 use Rattle.aseba_tree.specs.State.{Program, loaded}
 use Rattle.aseba_tree.specs.Step.{step}

@@ -1,11 +1,11 @@
 -- A step that stops, by cases on the first task.
-use Rattle.std.proofs.Common.{◌≡◌, refl, ap, sym, ◌∙◌, ℕ, zero, suc, ◌+◌, add-zero, Bool, true, false, List, [], ◌∷◌, ◌++◌, replicate, rules}
-use Rattle.std.specs.Prelude.{ℤ, pos, Option, Some, None, Result, Ok, Err, map, zip, length, if◌then◌else◌}
+use Rattle.std.proofs.Common.{◌≡◌, refl, ap, sym, ◌∙◌, ℕ, zero, suc, ◌+◌, add-zero, Bool, true, false, List, [], ◌∷◌, ◌++◌, replicate}
+use Rattle.std.specs.Prelude.{ℤ, Option, Some, None, Result, Ok, Err, map, zip, length, if◌then◌else◌}
 use Rattle.std.proofs.Math.Nat.{suc-add, add-suc}
-use Rattle.aseba_tree.specs.Code.{Name, Place, Expr, expr, items, Stmt, stmt, StmtForm, assign, change, bump, if_then, when_do, while_do, for_do, emit, callsub, call, return}
+use Rattle.aseba_tree.specs.Code.{Name, expr, items, stmt, assign, change, bump, if_then, when_do, while_do, for_do, emit, callsub, call, return}
 use Rattle.aseba_tree.specs.Value.{Stop, Cells, elements, value}
 use Rattle.aseba_tree.specs.State.{Program, tasks, list_whens, Task, perform, put, leave, turn, try, next, back, finish, State, none_held}
-use Rattle.aseba_tree.specs.Step.{Stepped, ended, applied, applied_cells, storing, places, assigned, changed, ones, target_expr, tested, leaving, edge, emitted_cells, emitted, behind_back, returned, performed, first_done, task_native, is_running, next_native, step}
+use Rattle.aseba_tree.specs.Step.{Stepped, ended, applied, applied_cells, storing, places, assigned, changed, ones, target_expr, tested, leaving, edge, emitted_cells, emitted, behind_back, returned, first_done, task_native, is_running, next_native, step}
 use Rattle.aseba_tree.specs.Laws.{is_stop, IdleStaysIdle}
 use Rattle.aseba_tree.specs.Lines.{Run, all_ticking}
 

@@ -1,5 +1,5 @@
 -- What comes from outside: events, and values for cells.
-use Rattle.std.specs.Prelude.{ℕ, suc, ℤ, pos, Bool, true, false, ◌&&◌, if◌then◌else◌, List, [], ◌∷◌, ◌++◌, map, bytes_eq, Option, Some, None, codes}
+use Rattle.std.specs.Prelude.{ℕ, suc, ℤ, pos, true, false, ◌&&◌, if◌then◌else◌, List, [], ◌∷◌, ◌++◌, map, bytes_eq, Option, Some, None, codes}
 use Rattle.std.specs.List.{list_any}
 use Rattle.aseba_words.specs.Cell.{wrapped}
 use Rattle.aseba_tree.specs.Code.{Name, Handler, Project}

@@ -1,11 +1,11 @@
 -- The states and the steps of a core. They are those of a source, with addresses in place of names.
-use Rattle.std.specs.Prelude.{ℕ, suc, ◌+◌, ◌-◌, ℤ, pos, Bool, true, false, not, ◌&&◌, if◌then◌else◌, nat_eq, nat_le, List, [], ◌∷◌, ◌++◌, map, take, drop, length, replicate, sum_by, slice_get, slice_set, slice_index_or, slice_range, position, bytes_eq, Option, Some, None, option_map, unwrap_or, Result, Ok, Err, codes}
+use Rattle.std.specs.Prelude.{ℕ, suc, ◌+◌, ◌-◌, ℤ, pos, Bool, true, false, not, ◌&&◌, if◌then◌else◌, nat_eq, nat_le, List, [], ◌∷◌, ◌++◌, map, take, length, replicate, sum_by, slice_get, slice_set, slice_index_or, slice_range, position, bytes_eq, Option, Some, None, option_map, unwrap_or, Result, Ok, Err, codes}
 use Rattle.std.specs.Option.{option_or, option_eq}
 use Rattle.aseba_words.specs.Cell.{wrapped, is_true}
 use Rattle.aseba_words.specs.Natives.{native_run, native_params}
 use Rattle.aseba_tree.specs.Code.{Name, Sized, Project}
 use Rattle.aseba_tree.specs.Line.{Event, named, numbered, Report, began, ignored, dropped, killed, sent}
-use Rattle.aseba_tree.specs.Value.{Stop, by_zero, outside, Element, and_then, place_among, unary_element, binary_element}
+use Rattle.aseba_tree.specs.Value.{Stop, by_zero, Element, and_then, place_among, unary_element, binary_element}
 use Rattle.aseba_tree.specs.Step.{applied_cells, stop_report}
 use Rattle.aseba_tree.specs.Core.{CoreExpr, fixed, cell, indirect, prefix, infix_of, CoreTarget, into, into_index, CoreStmt, core_stmt, CoreForm, store, branch, on_edge, loop, send, enter, use_native, go_back, CoreStmts, no_core, core_stmts, CorePart, Core}
 

@@ -1,10 +1,9 @@
 -- Laws of the meaning, which a wrong definition breaks.
-use Rattle.std.specs.Prelude.{◌≡◌, ℕ, suc, ◌+◌, ℤ, Bool, true, false, List, [], ◌∷◌, replicate, Option, Some, None, IsSome}
-use Rattle.aseba_tree.specs.Code.{Handler}
+use Rattle.std.specs.Prelude.{◌≡◌, ℕ, suc, ◌+◌, ℤ, Bool, true, false, List, [], replicate, Option, Some, None, IsSome}
 use Rattle.aseba_tree.specs.Line.{Event, Report, division, bounds}
 use Rattle.aseba_tree.specs.Script.{Script, actions_at}
 use Rattle.aseba_tree.specs.State.{Program, State, none_held}
-use Rattle.aseba_tree.specs.Step.{step, ended, applied, is_running, next_native}
+use Rattle.aseba_tree.specs.Step.{step, ended, is_running, next_native}
 use Rattle.aseba_tree.specs.Arrival.{arrive, handler_of}
 use Rattle.aseba_tree.specs.Lines.{Run, all_acting, ticking, all_ticking}
 

@@ -1,5 +1,5 @@
 -- What a run tells, line by line: as data, so that runs can be compared field by field, and as text.
-use Rattle.std.specs.Prelude.{ℕ, ℤ, pos, List, [], ◌∷◌, ◌++◌, codes, decimal}
+use Rattle.std.specs.Prelude.{ℕ, ℤ, List, [], ◌∷◌, ◌++◌, codes, decimal}
 use Rattle.std.specs.Fmt.{signed_decimal}
 use Rattle.aseba_tree.specs.Code.{Name}
 

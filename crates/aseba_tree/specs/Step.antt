@@ -4,7 +4,7 @@ use Rattle.std.specs.List.{range_with_len, position_or_len}
 use Rattle.aseba_words.specs.declared.operators.Binary.{Binary}
 use Rattle.aseba_words.specs.Cell.{wrapped, is_true}
 use Rattle.aseba_words.specs.Natives.{native_run, native_params}
-use Rattle.aseba_tree.specs.Code.{Name, Place, Expr, expr, Form, number, whole, index, range, items, two, Exprs, no_exprs, exprs, Part, all, at, span, Target, ForHead, Stmt, stmt, StmtForm, assign, change, bump, if_then, when_do, while_do, for_do, emit, callsub, call, return, Stmts, no_stmts, stmts, Handler, Param, Native, Const, Project}
+use Rattle.aseba_tree.specs.Code.{Name, Place, Expr, expr, Form, number, whole, index, range, items, two, Exprs, no_exprs, exprs, Part, all, at, span, Target, stmt, StmtForm, assign, change, bump, if_then, when_do, while_do, for_do, emit, callsub, call, return, Stmts, no_stmts, stmts, Handler, Const, Project}
 use Rattle.aseba_tree.specs.Line.{Report, named, sent, division, bounds}
 use Rattle.aseba_tree.specs.Value.{Named, Cells, cells_of, variable_cells, put_cell, Stop, by_zero, outside, and_then, place_among, one_element, elements, value, constant, as_place, from_to}
 use Rattle.aseba_tree.specs.State.{Program, Task, perform, put, leave, turn, try, next, back, finish, tasks, list_whens, part_named, State, none_held}
