@@ -1,2 +1,4 @@
+mod CoreRows
 mod Rows
 mod Steps
+mod Written

@@ -1,86 +1,14 @@
 -- Runs whose lines were worked out by hand, with the beats of the code of their sources: the definitions compute the same lines.
-use Rattle.std.specs.Prelude.{◌≡◌, refl, ℕ, ◌==◌, ℤ, pos, negsuc, Bool, true, false, List, [], ◌∷◌, map, take, Option, Some, None, codes}
+use Rattle.std.specs.Prelude.{◌≡◌, refl, ℕ, pos, Bool, true, List, [], ◌∷◌, take, Some, None, codes}
 use Rattle.std.specs.Int.{int_wrap}
 use Rattle.aseba_words.specs.declared.operators.Binary.TheVariants.{Add, Div, Equal}
-use Rattle.aseba_tree.specs.Code.{Name, Place, Expr, expr, Form, number, whole, index, items, two, no_exprs, exprs, all, at, Stmt, stmt, StmtForm, assign, change, when_do, for_do, emit, callsub, call, Stmts, no_stmts, stmts, Decl, Handler, Native, Project}
+use Rattle.aseba_tree.specs.Code.{Name, Expr, index, two, no_exprs, exprs, all, at, assign, change, when_do, for_do, emit, callsub, call, no_stmts}
 use Rattle.aseba_tree.specs.Line.{named, began, ignored, killed, was_set, sent, division, bounds, told, var, end}
-use Rattle.aseba_tree.specs.Script.{Entry, arrives, sets, Script}
+use Rattle.aseba_tree.specs.Script.{sets, Script}
 use Rattle.aseba_tree.specs.State.{Program, loaded}
 use Rattle.aseba_tree.specs.Step.{step}
 use Rattle.aseba_tree.specs.Lines.{lines_of}
-
--- places don't count in a run
-abbrev spot : Place
-spot = record { line = 1; column = 1 }
-
-abbrev ex : Form → Expr
-ex form = expr spot spot form
-
-abbrev num : ℕ → Expr
-num n = ex (number (pos n))
-
-abbrev name : List ℕ → Expr
-name n = ex (whole n)
-
-abbrev list : Expr → Expr → Expr
-list a b = ex (items (exprs a (exprs b no_exprs)))
-
-abbrev st : ℕ → StmtForm → Stmt
-st line form = stmt line spot form
-
-abbrev block : List Stmt → Stmts
-block [] = no_stmts
-block (s ∷ ss) = stmts s (block ss)
-
-abbrev store : ℕ → Name → Expr → Stmt
-store line n e = st line (assign (record { place = spot; name = n; part = all }) e)
-
-abbrev decl : ℕ → Name → Option Expr → Option Expr → Decl
-decl line n size value = record { line = line; place = spot; name = n; size = size; equals = spot; value = value }
-
-abbrev onevent : ℕ → Name → List Stmt → Handler
-onevent line n body = record { line = line; place = spot; is_sub = false; name = n; body = block body }
-
-abbrev native : List ℕ → List ℤ → Native
-native n sizes = record { name = n; text = []; params = map (λ s. record { size = s; name = [] }) sizes }
-
-abbrev t : ℤ
-t = negsuc 0
-
-abbrev project : Project
-project = record {
-  node = record {
-    name = codes "sim";
-    code = 2048;
-    stack = 64;
-    cells = 1024;
-    variables = record { name = codes "_id"; size = 1 } ∷ record { name = codes "event.source"; size = 1 } ∷ record { name = codes "event.args"; size = 32 } ∷ [];
-    locals = [];
-    natives =
-        native (codes "math.copy") (t ∷ t ∷ []) ∷ native (codes "math.fill") (t ∷ pos 1 ∷ []) ∷ native (codes "math.addscalar") (t ∷ t ∷ pos 1 ∷ [])
-        ∷ native (codes "math.add") (t ∷ t ∷ t ∷ []) ∷ native (codes "math.sub") (t ∷ t ∷ t ∷ []) ∷ native (codes "math.mul") (t ∷ t ∷ t ∷ [])
-        ∷ native (codes "math.div") (t ∷ t ∷ t ∷ []) ∷ [];
-  };
-  id = 1;
-  events = record { name = codes "ping"; size = 0 } ∷ record { name = codes "pong"; size = 0 } ∷ record { name = codes "pair"; size = 2 } ∷ [];
-  consts = [];
-}
-
-abbrev program : List Decl → List Stmt → List Handler → Program
-program vars init parts = record { project = project; source = record { vars = vars; init = block init; parts = parts } }
-
-abbrev event : ℕ → Name → List ℤ → Entry
-event time n args = record { time = time; action = arrives (named n) 0 args }
-
--- true at each `#`
-abbrev beats : List ℕ → List Bool
-beats marks = map (λ c. c == 35) marks
-
-abbrev x : Name
-x = codes "x"
-
-abbrev ping : Name
-ping = codes "ping"
+use Rattle.aseba_tree.proofs.Written.{spot, ex, num, name, list, st, block, store, decl, onevent, program, event, beats, x, ping}
 
 -- var x = 1 / onevent ping / x = x + 1 / emit pong
 abbrev kill_in_expression : Program
