@@ -43,6 +43,15 @@ native n sizes = record { name = n; text = []; params = map (λ s. record { size
 abbrev pub t : ℤ
 t = negsuc 0
 
+abbrev pub natives : List Native
+natives =
+    native (codes "math.copy") (t ∷ t ∷ []) ∷ native (codes "math.fill") (t ∷ pos 1 ∷ []) ∷ native (codes "math.addscalar") (t ∷ t ∷ pos 1 ∷ [])
+    ∷ native (codes "math.add") (t ∷ t ∷ t ∷ []) ∷ native (codes "math.sub") (t ∷ t ∷ t ∷ []) ∷ native (codes "math.mul") (t ∷ t ∷ t ∷ [])
+    ∷ native (codes "math.div") (t ∷ t ∷ t ∷ []) ∷ native (codes "math.min") (t ∷ t ∷ t ∷ []) ∷ native (codes "math.max") (t ∷ t ∷ t ∷ [])
+    ∷ native (codes "math.clamp") (t ∷ t ∷ t ∷ t ∷ []) ∷ native (codes "math.dot") (pos 1 ∷ t ∷ t ∷ pos 1 ∷ [])
+    ∷ native (codes "math.muldiv") (t ∷ t ∷ t ∷ t ∷ []) ∷ native (codes "math.stat") (t ∷ pos 1 ∷ pos 1 ∷ pos 1 ∷ [])
+    ∷ native (codes "math.argbounds") (t ∷ pos 1 ∷ pos 1 ∷ []) ∷ []
+
 abbrev pub project : Project
 project = record {
   node = record {
@@ -52,10 +61,7 @@ project = record {
     cells = 1024;
     variables = record { name = codes "_id"; size = 1 } ∷ record { name = codes "event.source"; size = 1 } ∷ record { name = codes "event.args"; size = 32 } ∷ [];
     locals = [];
-    natives =
-        native (codes "math.copy") (t ∷ t ∷ []) ∷ native (codes "math.fill") (t ∷ pos 1 ∷ []) ∷ native (codes "math.addscalar") (t ∷ t ∷ pos 1 ∷ [])
-        ∷ native (codes "math.add") (t ∷ t ∷ t ∷ []) ∷ native (codes "math.sub") (t ∷ t ∷ t ∷ []) ∷ native (codes "math.mul") (t ∷ t ∷ t ∷ [])
-        ∷ native (codes "math.div") (t ∷ t ∷ t ∷ []) ∷ [];
+    natives = natives;
   };
   id = 1;
   events = record { name = codes "ping"; size = 0 } ∷ record { name = codes "pong"; size = 0 } ∷ record { name = codes "pair"; size = 2 } ∷ [];

@@ -1,6 +1,6 @@
 -- What a run tells, line by line: as data, so that runs can be compared field by field, and as text.
-use Rattle.std.specs.Prelude.{ℕ, ℤ, List, [], ◌∷◌, ◌++◌, codes, decimal}
-use Rattle.std.specs.Fmt.{signed_decimal}
+use Rattle.std.specs.Prelude.{ℕ, ℤ, List, [], ◌∷◌, ◌++◌, codes, decimal, flat_map, ◌/◌, ◌%◌, false}
+use Rattle.std.specs.Fmt.{signed_decimal, digit_glyph}
 use Rattle.aseba_tree.specs.Code.{Name}
 
 -- an event by its name, or by the number of one that the project doesn't have
@@ -76,3 +76,11 @@ line_text (end t k) = codes "end " ++ decimal t ++ blank_number k
 abbrev pub lines_text : List Line → List ℕ
 lines_text [] = []
 lines_text (line ∷ lines) = line_text line ++ codes "\n" ++ lines_text lines
+
+-- a word as four hexadecimal digits in lower case
+abbrev pub word_text : ℕ → List ℕ
+word_text word = digit_glyph false (word / 4096 % 16) ∷ digit_glyph false (word / 256 % 16) ∷ digit_glyph false (word / 16 % 16) ∷ digit_glyph false (word % 16) ∷ []
+
+-- the line that shows a program's words
+abbrev pub code_text : List ℕ → List ℕ
+code_text words = codes "code" ++ flat_map (λ word. codes " " ++ word_text word) words
