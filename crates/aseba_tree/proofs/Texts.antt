@@ -1,5 +1,5 @@
 -- The texts of some lines.
-use Rattle.std.specs.Prelude.{◌≡◌, refl, pos, negsuc, List, [], ◌∷◌, codes}
+use Rattle.std.specs.Prelude.{◌≡◌, refl, pos, negsuc, [], ◌∷◌, codes}
 use Rattle.std.specs.Fmt.{digits}
 use Rattle.aseba_tree.specs.Line.{named, numbered, began, ignored, dropped, killed, was_set, sent, division, bounds, told, var, end, lines_text, code_text}
 
