@@ -1,3 +1,4 @@
 pub mod Cell
 pub mod Codes
+pub mod Natives
 pub mod formers
