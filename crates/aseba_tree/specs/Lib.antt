@@ -11,3 +11,4 @@ pub mod Script
 pub mod State
 pub mod Step
 pub mod Value
+pub mod View
