@@ -1,1 +1,14 @@
+pub mod Arrival
+pub mod Code
+pub mod Core
+pub mod CoreStep
 pub mod Inside
+pub mod Laws
+pub mod Line
+pub mod Lines
+pub mod Moves
+pub mod Script
+pub mod State
+pub mod Step
+pub mod Value
+pub mod View

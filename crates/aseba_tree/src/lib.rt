@@ -1,5 +1,6 @@
-//! What the other rooms speak of: tokens, the tree of a source, its element form, and what a
-//! project says of a node. Plain data, so that contracts see each value as it stands.
+//! What the other rooms speak of: tokens, the tree of a source, its element form, what a project
+//! says of a node, and, in the definitions beside them, what a source means. Plain data, so that
+//! contracts see each value as it stands.
 #![tactic(auto)]
 
 mod copies;
@@ -8,9 +9,12 @@ mod decl;
 mod description;
 mod expr;
 mod inside;
+mod laws;
 mod pos;
 mod project;
+mod sound_laws;
 mod source;
+mod spell_laws;
 mod stmt;
 mod token;
 
@@ -18,9 +22,14 @@ pub use core_tree::{Core, CoreExpr, CoreForm, CorePart, CoreStmt, CoreTarget};
 pub use decl::Decl;
 pub use description::{Description, Local, Native, Param, Sized};
 pub use expr::{Expr, Form};
+pub use laws::{false_beats_leave_all, idle_stays_idle, kills_leave_nothing, stops_store_nothing};
 pub use pos::Pos;
 pub use project::{Const, Project};
+pub use sound_laws::{
+    constant_has_value, sound_has_cells, sound_has_elements, sound_is_faultless, sound_is_laid_out,
+};
 pub use source::{Handler, Source};
+pub use spell_laws::each_token_has_nest;
 pub use stmt::{ForHead, Part, Stmt, StmtForm, Target};
 pub use token::{Key, Sign, Token, TokenKind};
 

@@ -1,0 +1,6 @@
+mod CoreRows
+mod Robot
+mod Rows
+mod Steps
+mod Texts
+mod Written
