@@ -14,7 +14,7 @@ use Rattle.aseba_tree.specs.Core.{CoreExpr, cell, prefix}
 use Rattle.aseba_tree.specs.CoreStep.{address_from}
 use Rattle.aseba_tree.specs.Spells.{first_of}
 use Rattle.aseba_tree.specs.Sizes.{Known, Scope, variable_of, constant_value, is_constant, is_of_one_cell, common_size, added_size, range_size, name_size, unary_size, size_of, form_size, list_size, variable_size}
-use Rattle.aseba_tree.specs.Faults.{first_scope, world_of, fault_if, unknown, not_constant, not_scalar, bad_size, index_out, is_more_than_one, unknown_variable, is_known, outside, backwards, constant_place, bad_range, zero_divisions, sizes_differ, expr_faults, form_faults, list_faults, bad_operand, bad_operands}
+use Rattle.aseba_tree.specs.Faults.{first_scope, world_of, fault_if, unknown, not_constant, not_scalar, bad_size, index_out, is_more_than_one, unknown_variable, is_known, index_outside, backwards, constant_place, bad_range, zero_divisions, sizes_differ, expr_faults, form_faults, list_faults, bad_operand, bad_operands}
 use Rattle.aseba_tree.specs.Layout.{variables}
 use Rattle.aseba_tree.specs.Elements.{variable_place, named_elements, range_elements, paired_elements, elements_of, elements_of_form, elements_of_list}
 use Rattle.aseba_tree.specs.Shape.{is_filled, is_filled_form, are_filled, is_some_exprs}
@@ -57,7 +57,7 @@ distance (suc k) n h = below (nat_lt n (suc k)) refl
     below true e = absurd (let less = ltb-true n (suc k) e in omega (arith, less, h))
     below false e = refl
 
-range_is_long : (place : Place) (size : ℕ) (p : ℕ × ℕ) (c d : ℤ) → outside place (Some size) (Some c) ≡ [] → outside place (Some size) (Some d) ≡ [] → backwards place (Some size) (Some c) (Some d) ≡ []
+range_is_long : (place : Place) (size : ℕ) (p : ℕ × ℕ) (c d : ℤ) → index_outside place (Some size) (Some c) ≡ [] → index_outside place (Some size) (Some d) ≡ [] → backwards place (Some size) (Some c) (Some d) ≡ []
     → range_size (Some c) (Some d) ≡ Some (length (range_elements (Some p) (as_place c) (as_place d)))
 range_is_long place size p (negsuc m) d oc od b = let wrong = no_fault true place (index_out (pos size) (negsuc m)) oc in cc
 range_is_long place size p (pos m) (negsuc n) oc od b = let wrong = no_fault true place (index_out (pos size) (negsuc n)) od in cc
@@ -75,14 +75,14 @@ range_is_long place size p (pos m) (pos n) oc od b = counted (nat_lt n m) (no_fa
 
 -- the same where the ends are known to have values
 range_length : (place : Place) (k : Option Known) (p : Option (ℕ × ℕ)) (c d : Option ℤ) → IsSame k p → fault_if (not (is_some k)) place unknown ≡ [] → IsSome c → IsSome d
-    → outside place (option_and_then (λ v. v.size) k) c ≡ [] → outside place (option_and_then (λ v. v.size) k) d ≡ [] → backwards place (option_and_then (λ v. v.size) k) c d ≡ []
+    → index_outside place (option_and_then (λ v. v.size) k) c ≡ [] → index_outside place (option_and_then (λ v. v.size) k) d ≡ [] → backwards place (option_and_then (λ v. v.size) k) c d ≡ []
     → (m n : ℤ) → ((v : ℤ) → c ≡ Some v → m ≡ v) → ((v : ℤ) → d ≡ Some v → n ≡ v) → range_size c d ≡ Some (length (range_elements p (as_place m) (as_place n)))
 range_length place None p c d h u hc hd oc od b m n vc vd = cc
 range_length place (Some k) None c d h u hc hd oc od b m n vc vd = absurd h
 range_length place (Some k) (Some p) None d h u hc hd oc od b m n vc vd = cc
 range_length place (Some k) (Some p) (Some c) None h u hc hd oc od b m n vc vd = cc
 range_length place (Some k) (Some p) (Some c) (Some d) h u hc hd oc od b m n vc vd =
-    range_is_long place p.1 p c d (ap (λ size. outside place size (Some c)) (sym h) ∙ oc) (ap (λ size. outside place size (Some d)) (sym h) ∙ od) (ap (λ size. backwards place size (Some c) (Some d)) (sym h) ∙ b)
+    range_is_long place p.1 p c d (ap (λ size. index_outside place size (Some c)) (sym h) ∙ oc) (ap (λ size. index_outside place size (Some d)) (sym h) ∙ od) (ap (λ size. backwards place size (Some c) (Some d)) (sym h) ∙ b)
     ∙ ap (λ i. Some (length (range_elements (Some p) (as_place i) (as_place d)))) (sym (vc c refl)) ∙ ap (λ i. Some (length (range_elements (Some p) (as_place m) (as_place i)))) (sym (vd d refl))
 
 -- Operators
@@ -146,7 +146,7 @@ range_is_long_enough program h place name c d fc fd e =
     (expr_is_good scope h c fc (nil_right (unknown_variable scope place name) _ first)) refl (nil_left (constant_place scope c) _ places))
     (place_value (is_constant scope d) (zero_divisions scope d) _ _ (constant_value scope d) (size_of scope d) (record { place = first_of d; rule = not_constant }) refl
     (expr_is_good scope h d fd (nil_right before _ parts)) refl (nil_right (constant_place scope c) _ places))
-    (nil_right (constant_place scope c ++ constant_place scope d) _ with_c) (nil_right _ (outside place (variable_size scope name) (constant_value scope d)) with_d) (nil_right _ (backwards place (variable_size scope name) (constant_value scope c) (constant_value scope d)) bad)
+    (nil_right (constant_place scope c ++ constant_place scope d) _ with_c) (nil_right _ (index_outside place (variable_size scope name) (constant_value scope d)) with_d) (nil_right _ (backwards place (variable_size scope name) (constant_value scope c) (constant_value scope d)) bad)
     (constant program.project.consts c) (constant program.project.consts d) (λ v. constant_is_value scope c v) (λ v. constant_is_value scope d v)
 
 -- an expression without a fault has as many elements as cells

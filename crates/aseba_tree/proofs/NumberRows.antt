@@ -11,7 +11,7 @@ use Rattle.aseba_tree.specs.Soundness.{subroutine_far, refusal, Sound}
 use Rattle.aseba_tree.specs.Core.{CoreExpr, fixed, cell, into, CoreStmt, core_stmt, store, no_core, core_stmts, Core}
 use Rattle.aseba_tree.specs.CoreNumbers.{core_words, core_depth, core_weight}
 use Rattle.aseba_tree.specs.CoreShape.{is_good_list}
-use Rattle.aseba_tree.specs.Layout.{variable_cells}
+use Rattle.aseba_tree.specs.Layout.{cells_of_variables}
 use Rattle.aseba_tree.specs.Numbers.{source_words, source_depth, source_room, source_weight, stmts_words, starts}
 
 -- all nodes stand at one place, which no number looks at
@@ -133,7 +133,7 @@ deeper_sum = refl
 abbrev moved : Program
 moved = program 2048 (var (codes "a") (Some (num (pos 990))) None ∷ []) (assign (record { place = here; name = codes "a"; part = span (num (pos 1)) (num (pos 989)) }) (rng (codes "a") 0 988) ∷ []) []
 
-moved_cells : variable_cells moved + source_room moved ≡ 2013
+moved_cells : cells_of_variables moved + source_room moved ≡ 2013
 moved_cells = refl
 
 -- `for x in 1:3000 step -1 do x++ end`: w(1) + w(3000) + w(-1) + 7 + 1, where the step is one number, and four words of the body; in a large project a jump takes four words
@@ -353,5 +353,5 @@ weight_of_robot : source_weight robot ≡ 1 + 3 * 16 + 3
 unfolding int_wrap
 weight_of_robot = refl
 
-cells_of_robot : variable_cells robot ≡ 66
+cells_of_robot : cells_of_variables robot ≡ 66
 cells_of_robot = refl

@@ -11,7 +11,7 @@ use Rattle.aseba_words.specs.Cell.{binary_value, divided, wrapped}
 use Rattle.aseba_tree.specs.Code.{Name, Place, Expr, expr, Form, number, whole, index, range, items, one, two, Exprs, no_exprs, exprs}
 use Rattle.aseba_tree.specs.Sizes.{Known, Scope, variable_of, constant_of, is_constant, is_constant_form, are_constant, unary_constant, binary_constant, alone, constant_value, constant_form, constant_list, is_of_one_cell, common_size, added_size, range_size, name_size, unary_size, size_of, form_size, list_size, variable_size}
 use Rattle.aseba_tree.specs.Spells.{first_of}
-use Rattle.aseba_tree.specs.Faults.{Fault, Rule, fault_if, unknown, not_constant, constant_division, not_scalar, bad_size, is_more_than_one, not_one_cell, unknown_variable, is_known, outside, backwards, constant_place, bad_range, divides, is_number, zero_divisions, form_divisions, list_divisions, sizes_differ, expr_faults, form_faults, list_faults, bad_operand}
+use Rattle.aseba_tree.specs.Faults.{Fault, Rule, fault_if, unknown, not_constant, constant_division, not_scalar, bad_size, is_more_than_one, not_one_cell, unknown_variable, is_known, index_outside, backwards, constant_place, bad_range, divides, is_number, zero_divisions, form_divisions, list_divisions, sizes_differ, expr_faults, form_faults, list_faults, bad_operand}
 use Rattle.aseba_tree.specs.SoundLaws.{HasCells}
 use Rattle.aseba_tree.specs.Shape.{is_filled, is_filled_form, are_filled, is_some_exprs}
 
@@ -225,7 +225,7 @@ range_is_good scope h place name c d e gc gd =
           (known_has_cells place (variable_of scope name) (found_has_cells name scope.variables h) known)
           (place_value (is_constant scope c) (zero_divisions scope c) _ _ (constant_value scope c) (size_of scope c) (record { place = first_of c; rule = not_constant }) refl gc refl (nil_left (constant_place scope c) _ places))
           (place_value (is_constant scope d) (zero_divisions scope d) _ _ (constant_value scope d) (size_of scope d) (record { place = first_of d; rule = not_constant }) refl gd refl (nil_right (constant_place scope c) _ places))
-          (nil_right (constant_place scope c ++ constant_place scope d ++ outside place (variable_size scope name) (constant_value scope c) ++ outside place (variable_size scope name) (constant_value scope d)) _ bad);
+          (nil_right (constant_place scope c ++ constant_place scope d ++ index_outside place (variable_size scope name) (constant_value scope c) ++ index_outside place (variable_size scope name) (constant_value scope d)) _ bad);
       has_value = λ c d s. cc;
     }
 

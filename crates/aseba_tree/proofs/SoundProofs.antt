@@ -11,7 +11,7 @@ use Rattle.aseba_tree.specs.Sizes.{Known, Scope, is_constant, constant_value, si
 use Rattle.aseba_tree.specs.Faults.{Fault, fault_if, unknown, duplicate, is_known, not_constant, bad_size, unknown_variable, bad_index, bad_range, zero_divisions, expr_faults, form_faults, list_faults, bad_operand, part_faults, target_faults, assignment_faults, cell_faults, bound_faults, head_faults, step_faults, argument_faults, global_event, World, stmt_faults, stmt_form_faults, stmts_faults, size_in_range, given_size, size_out_of_range, size_faults, value_faults, decl_faults, declaring, all_declaring, decls_faults, part_name_faults, parts_faults, recursion_faults, sub_calls, first_scope, world_of, faults, first_fault}
 use Rattle.aseba_tree.specs.Shape.{is_filled, is_filled_form, are_filled, is_some_exprs, to_list, part_exprs, stmt_exprs, form_exprs, stmts_exprs, decl_exprs, IsTree}
 use Rattle.aseba_tree.specs.Numbers.{is_large, Start}
-use Rattle.aseba_tree.specs.Layout.{variable_cells}
+use Rattle.aseba_tree.specs.Layout.{cells_of_variables}
 use Rattle.aseba_tree.specs.Soundness.{Refusal, far_subroutine, refusal_without_fault, refusal_by, Sound}
 use Rattle.aseba_tree.specs.SoundLaws.{SoundIsFaultless, HasCells, EachHasCells, EachInForm, EachInList, EachInOption, EachInPart, EachInHead, EachInStmt, EachInStmtForm, EachInStmts, EachInParts, EachInDecls, SoundHasCells}
 use Rattle.aseba_tree.proofs.SizeLaws.{EachKnown, nil_left, nil_right, no_fault, both_left, both_right, place_value, expr_is_good}
@@ -36,15 +36,15 @@ outside false true far f g e h = ap (option_map g) (h refl)
 pub sound_is_faultless : (program : Program) → SoundIsFaultless program
 sound_is_faultless program = (there, back)
   where
-    there : Sound program → (faults program ≡ []) × (variable_cells program ≤ program.project.node.cells) × (IsTrue (is_large program.project) → far_subroutine program ≡ None)
+    there : Sound program → (faults program ≡ []) × (cells_of_variables program ≤ program.project.node.cells) × (IsTrue (is_large program.project) → far_subroutine program ≡ None)
     there sound =
         let parts = by_no_fault program (faults program) sound in
-        let rest = inside (nat_lt program.project.node.cells (variable_cells program)) (is_large program.project) (far_subroutine program) _ _ parts.1 in
-        (parts.0, ltb-false program.project.node.cells (variable_cells program) rest.0, rest.1)
+        let rest = inside (nat_lt program.project.node.cells (cells_of_variables program)) (is_large program.project) (far_subroutine program) _ _ parts.1 in
+        (parts.0, ltb-false program.project.node.cells (cells_of_variables program) rest.0, rest.1)
 
-    back : (faults program ≡ []) × (variable_cells program ≤ program.project.node.cells) × (IsTrue (is_large program.project) → far_subroutine program ≡ None) → Sound program
+    back : (faults program ≡ []) × (cells_of_variables program ≤ program.project.node.cells) × (IsTrue (is_large program.project) → far_subroutine program ≡ None) → Sound program
     back h = ap (λ fs. refusal_by program (first_fault fs)) h.0
-        ∙ outside (nat_lt program.project.node.cells (variable_cells program)) (is_large program.project) (far_subroutine program) _ _ (le-ltb program.project.node.cells (variable_cells program) h.1) h.2
+        ∙ outside (nat_lt program.project.node.cells (cells_of_variables program)) (is_large program.project) (far_subroutine program) _ _ (le-ltb program.project.node.cells (cells_of_variables program) h.1) h.2
 
 -- Lists of expressions
 

@@ -35,7 +35,7 @@ pub record Fault : Type 0 where
 abbrev pub fault_if : Bool → Place → Rule → List Fault
 fault_if b place rule = if b then record { place = place; rule = rule } ∷ [] else []
 
--- Two sizes that are both there and differ
+-- two sizes that are both there and differ
 abbrev pub sizes_differ : (ℤ → ℤ → Rule) → Place → Option ℕ → Option ℕ → List Fault
 sizes_differ rule place (Some want) (Some got) = fault_if (not (nat_eq want got)) place (rule (pos want) (pos got))
 sizes_differ rule place _ _ = []
@@ -58,9 +58,9 @@ abbrev pub is_known : Scope → Name → Bool
 is_known scope name = is_some (variable_of scope name) || is_some (constant_of scope name)
 
 -- an index or the end of a range that has a value is a cell of the variable
-abbrev pub outside : Place → Option ℕ → Option ℤ → List Fault
-outside place (Some size) (Some v) = fault_if (int_lt v (pos 0) || not (int_lt v (pos size))) place (index_out (pos size) v)
-outside place _ _ = []
+abbrev pub index_outside : Place → Option ℕ → Option ℤ → List Fault
+index_outside place (Some size) (Some v) = fault_if (int_lt v (pos 0) || not (int_lt v (pos size))) place (index_out (pos size) v)
+index_outside place _ _ = []
 
 abbrev pub backwards : Place → Option ℕ → Option ℤ → Option ℤ → List Fault
 backwards place (Some size) (Some c) (Some d) = fault_if (int_lt d c) place (index_out (pos size) d)
@@ -99,13 +99,13 @@ constant_place scope e =
 -- the index of a variable, which may be computed when it runs
 abbrev pub bad_index : Scope → Place → Name → Expr → List Fault
 bad_index scope place name e =
-    (if is_constant scope e then zero_divisions scope e else []) ++ not_one_cell scope e ++ outside place (variable_size scope name) (constant_value scope e)
+    (if is_constant scope e then zero_divisions scope e else []) ++ not_one_cell scope e ++ index_outside place (variable_size scope name) (constant_value scope e)
 
 -- the ends of a range: the first, then the second, then their order
 abbrev pub bad_range : Scope → Place → Name → Expr → Expr → List Fault
 bad_range scope place name c d =
-    constant_place scope c ++ constant_place scope d ++ outside place (variable_size scope name) (constant_value scope c)
-    ++ outside place (variable_size scope name) (constant_value scope d) ++ backwards place (variable_size scope name) (constant_value scope c) (constant_value scope d)
+    constant_place scope c ++ constant_place scope d ++ index_outside place (variable_size scope name) (constant_value scope c)
+    ++ index_outside place (variable_size scope name) (constant_value scope d) ++ backwards place (variable_size scope name) (constant_value scope c) (constant_value scope d)
 
 abbrev pub bad_operand : Scope → Unary → Expr → List Fault
 bad_operand scope Minus e = []
@@ -190,27 +190,27 @@ with_params (p ∷ ps) (exprs e es) = (p.size, e) ∷ with_params ps es
 with_params _ _ = []
 
 -- the length of a template is that of its first argument
-abbrev pub template_length : Scope → List (ℤ × Expr) → ℤ → Option ℕ
-template_length scope [] template = None
-template_length scope (a ∷ rest) template = if int_eq a.0 template then size_of scope a.1 else template_length scope rest template
+abbrev pub template_size : Scope → List (ℤ × Expr) → ℤ → Option ℕ
+template_size scope [] template = None
+template_size scope (a ∷ rest) template = if int_eq a.0 template then size_of scope a.1 else template_size scope rest template
 
 -- the length that a parameter asks for
 abbrev pub wanted_length : Scope → List (ℤ × Expr) → ℤ → Option ℕ
 wanted_length scope arguments (pos n) = Some n
-wanted_length scope arguments (negsuc n) = template_length scope arguments (negsuc n)
+wanted_length scope arguments (negsuc n) = template_size scope arguments (negsuc n)
 
 abbrev pub length_faults : Scope → List (ℤ × Expr) → List (ℤ × Expr) → List Fault
 length_faults scope arguments [] = []
 length_faults scope arguments (a ∷ rest) = sizes_differ bad_size (first_of a.1) (wanted_length scope arguments a.0) (size_of scope a.1) ++ length_faults scope arguments rest
 
-abbrev pub count : Exprs → ℕ
-count no_exprs = 0
-count (exprs e es) = 1 + count es
+abbrev pub argument_count : Exprs → ℕ
+argument_count no_exprs = 0
+argument_count (exprs e es) = 1 + argument_count es
 
 abbrev pub native_faults : Scope → Place → Option Native → Exprs → List Fault
 native_faults scope place None es = record { place = place; rule = unknown } ∷ []
 native_faults scope place (Some native) es =
-    fault_if (not (nat_eq (length native.params) (count es))) place (arg_count (pos (length native.params)) (pos (count es)))
+    fault_if (not (nat_eq (length native.params) (argument_count es))) place (arg_count (pos (length native.params)) (pos (argument_count es)))
     ++ length_faults scope (with_params native.params es) (with_params native.params es)
 
 abbrev pub native_of : Project → Name → Option Native

@@ -8,8 +8,8 @@ abbrev pub variables : Program → List Sized
 variables program = node_variables program.project ++ declared program
 
 -- the number of all their cells
-abbrev pub variable_cells : Program → ℕ
-variable_cells program = sum_by (λ v. v.size) (variables program)
+abbrev pub cells_of_variables : Program → ℕ
+cells_of_variables program = sum_by (λ v. v.size) (variables program)
 
 -- a variable with its first cell's address and its size
 pub record Placed : Type 0 where

@@ -6,7 +6,7 @@ use Rattle.aseba_tree.specs.State.{Program}
 use Rattle.aseba_tree.specs.Sizes.{Scope, size_of, form_size, constant_value}
 use Rattle.aseba_tree.specs.Value.{value}
 use Rattle.aseba_tree.specs.Faults.{expr_faults, faults, declaring, first_scope, world_of}
-use Rattle.aseba_tree.specs.Layout.{variables, variable_cells}
+use Rattle.aseba_tree.specs.Layout.{variables, cells_of_variables}
 use Rattle.aseba_tree.specs.Numbers.{is_large}
 use Rattle.aseba_tree.specs.Shape.{is_filled, IsTree}
 use Rattle.aseba_tree.specs.Elements.{elements_of}
@@ -15,7 +15,7 @@ use Rattle.aseba_tree.specs.Soundness.{far_subroutine, Sound}
 -- A source is sound exactly where no rule is broken, the variables have room in the node, and no subroutine of a large project begins too far behind.
 abbrev pub SoundIsFaultless : Program → Type 0
 SoundIsFaultless program =
-    Sound program ↔ ((faults program ≡ []) × (variable_cells program ≤ program.project.node.cells) × (IsTrue (is_large program.project) → far_subroutine program ≡ None))
+    Sound program ↔ ((faults program ≡ []) × (cells_of_variables program ≤ program.project.node.cells) × (IsTrue (is_large program.project) → far_subroutine program ≡ None))
 
 -- there is a size, and it is at least 1
 abbrev pub HasCells : Option ℕ → Type 0

@@ -3,7 +3,7 @@ use Rattle.std.specs.Prelude.{◌≡◌, ℕ, nat_lt, if◌then◌else◌, find,
 use Rattle.aseba_tree.specs.Code.{Place}
 use Rattle.aseba_tree.specs.State.{Program}
 use Rattle.aseba_tree.specs.Faults.{Fault, faults, first_fault}
-use Rattle.aseba_tree.specs.Layout.{variable_cells}
+use Rattle.aseba_tree.specs.Layout.{cells_of_variables}
 use Rattle.aseba_tree.specs.Numbers.{is_large, Start, starts}
 
 -- A rule is broken at a place; the variables need more cells than the node has; or the code of the subroutine whose name stands at a place begins too far behind.
@@ -22,7 +22,7 @@ far_subroutine program = find (λ s. nat_lt farthest s.address) (starts program)
 
 abbrev pub refusal_without_fault : Program → Option Refusal
 refusal_without_fault program =
-    if nat_lt program.project.node.cells (variable_cells program) then Some (variables_full (variable_cells program) program.project.node.cells)
+    if nat_lt program.project.node.cells (cells_of_variables program) then Some (variables_full (cells_of_variables program) program.project.node.cells)
     else (if is_large program.project then option_map (λ s. subroutine_far (s.sub).place s.address) (far_subroutine program) else None)
 
 abbrev pub refusal_by : Program → Option Fault → Option Refusal
