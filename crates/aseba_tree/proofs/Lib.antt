@@ -7,6 +7,7 @@ pub mod Robot
 pub mod Rows
 pub mod SizeLaws
 pub mod SoundProofs
+pub mod SpellLaws
 pub mod SpellRows
 pub mod Steps
 pub mod Texts

@@ -89,6 +89,10 @@ parts_nests (a_sub word named inner rest name body others is_word is_name all tr
 abbrev pub nests : {project : Project} {source : Source} {tokens : List Token} → Spells project source tokens → List ℕ
 nests d = decls_nests d.decls ++ (stmts_nests d.init ++ parts_nests d.parts)
 
+-- Each token of a program has a nest.
+abbrev pub EachTokenHasNest : Type 0
+EachTokenHasNest = (project : Project) (source : Source) (tokens : List Token) (d : Spells project source tokens) → length (nests d) ≡ length tokens
+
 -- in some program that begins with these tokens, the nest of the last of them is n
 abbrev pub Nested : Project → List Token → ℕ → Type 0
 Nested project tokens n = (more : List Token) × (source : Source) × (d : Spells project source (tokens ++ more)) × (slice_get (nests d) (length tokens - 1) ≡ Some n)
