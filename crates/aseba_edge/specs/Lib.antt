@@ -1,0 +1,10 @@
+pub mod Clock
+pub mod Counts
+pub mod Dialer
+pub mod Files
+pub mod Link
+pub mod MemoryFiles
+pub mod MemorySink
+pub mod Plan
+pub mod Rising
+pub mod Sink

@@ -1,0 +1,35 @@
+//! What the system meets of the outside: files, sinks, links and the ways to get them, and a clock.
+//! Each is a trait that says what a call answers, and that a fault is never the caller's doing: a
+//! count of faults, which nobody but the object itself can raise, rises with each.
+#![tactic(auto)]
+
+mod clock;
+mod dialer;
+mod files;
+mod link;
+mod memory_clock;
+mod memory_files;
+mod memory_sink;
+mod no_dialer;
+mod plan;
+mod poll;
+mod sink;
+mod system_clock;
+mod system_files;
+#[cfg(test)]
+mod tests;
+mod writer_sink;
+
+pub use clock::Clock;
+pub use dialer::{DialFault, Dialer};
+pub use files::{FileAnswer, Files};
+pub use link::{LinkFault, LinkIn, LinkOut};
+pub use memory_clock::MemoryClock;
+pub use memory_files::{MemoryFile, MemoryFiles};
+pub use memory_sink::MemorySink;
+pub use no_dialer::{NoDialer, NoLink};
+pub use poll::{LinkPoll, PollAnswer, Polled};
+pub use sink::{PutFault, Sink};
+pub use system_clock::SystemClock;
+pub use system_files::SystemFiles;
+pub use writer_sink::WriterSink;

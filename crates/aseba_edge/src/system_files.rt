@@ -1,0 +1,70 @@
+ghost use Rattle.std.specs.Prelude.{◌≡◌, None, IfOk, false};
+ghost use Rattle.aseba_edge.specs.Files.{IsWithin, is_failed};
+
+use crate::files::{FileAnswer, Files};
+use aseba_words::List;
+use std::alloc::Global;
+use std::io::{ErrorKind, Read};
+use std::{fs, io};
+
+/// The files of the system.
+#[derive(Drop)]
+pub struct SystemFiles<R> {
+    rt: R,
+    faults: u64,
+}
+
+impl<R> SystemFiles<R> {
+    /// Takes no memory.
+    pub fn new(rt: R) -> SystemFiles<R>
+        ensures { result ≡ record { rt = rt; faults = 0 } }
+    {
+        SystemFiles { rt, faults: 0 }
+    }
+}
+
+impl<R: fs::Files> Files for SystemFiles<R> {
+    ghost contents = { λ _. None };
+
+    ghost faults = { λ files. files.faults };
+
+    fn read(&mut self, alloc: Global, name: &str, limit: u64) -> FileAnswer {
+        match read_whole(alloc, &self.rt, name, limit) {
+            Ok(answer) => answer,
+            Err(error) => match error.kind() {
+                ErrorKind::NotFound => FileAnswer::Absent,
+                ErrorKind::OutOfMemory => FileAnswer::Mem,
+                _ => {
+                    self.faults = self.faults.saturating_add(1);
+                    FileAnswer::Failed
+                }
+            },
+        }
+    }
+}
+
+// Opens a file and reads it to its end, unless it is longer than the limit.
+fn read_whole<R: fs::Files>(alloc: Global, rt: &R, name: &str, limit: u64) -> io::Result<FileAnswer>
+    ensures within { IfOk result (λ answer. IsWithin limit answer) }
+    ensures done { IfOk result (λ answer. is_failed answer ≡ false) }
+{
+    let mut file = fs::open(rt, name)?;
+    let mut bytes = Vec::new(alloc);
+    let mut piece = [0u8; 4096];
+    for _ in 0..u64::MAX {
+        let count = match file.read(&mut piece) {
+            Err(error) if error.kind() == ErrorKind::Interrupted => continue,
+            answer => answer?,
+        };
+        if count == 0 {
+            return Ok(FileAnswer::Bytes(List::from_vec(bytes)));
+        }
+        if count as u64 > limit - bytes.len() as u64 {
+            return Ok(FileAnswer::TooBig);
+        }
+        if bytes.extend_from_slice(&piece[..count]).is_err() {
+            return Ok(FileAnswer::Mem);
+        }
+    }
+    Err(io::Error::from(ErrorKind::Interrupted))
+}

@@ -1,0 +1,242 @@
+ghost use Rattle.std.specs.Prelude.{◌≡◌, ◌++◌, None, Some, codes, IfOk, IfSome, IsErrOf, OnOk};
+ghost use Rattle.aseba_edge.specs.Counts.{Rose};
+ghost use Rattle.aseba_edge.specs.Sink.{Took, TookFirst};
+ghost use Rattle.aseba_edge.specs.declared.tests.Trouble.TheVariants.{Missing, Read, Write};
+
+use crate::*;
+use aseba_words::{List, Mem, Name};
+use std::alloc::Global;
+use std::io;
+use std::test::Fail;
+
+// What a program over files and a sink may end with.
+#[derive(Debug, Drop, PartialEq)]
+enum Trouble {
+    Missing,
+    Long,
+    Read,
+    Write,
+    Memory,
+}
+
+impl From<PutFault> for Trouble {
+    ghost from_gives = { λ _ trouble. trouble ≡ Write };
+
+    fn from(_fault: PutFault) -> Trouble {
+        Trouble::Write
+    }
+}
+
+// Code over the traits can give a cause for each of its answers, and can't invent one.
+fn load<F: Files>(alloc: Global, files: &mut F, name: &str) -> Result<List<u8>, Trouble>
+    ensures bytes { IfOk result (λ bytes. IfSome (F.contents files.old) (λ held. held name.now ≡ Some bytes)) }
+    ensures missing { IsErrOf result Missing →
+        IfSome (F.contents files.old) (λ held. held name.now ≡ None) }
+    ensures read { IsErrOf result Read → Rose (F.faults files.old) (F.faults files.new) }
+    ensures write { IsErrOf result Write → ⊥ }
+    ensures kept { F.contents files.new ≡ F.contents files.old }
+{
+    match files.read(alloc, name, 8) {
+        FileAnswer::Bytes(bytes) => Ok(bytes),
+        FileAnswer::Absent => Err(Trouble::Missing),
+        FileAnswer::TooBig => Err(Trouble::Long),
+        FileAnswer::Failed => Err(Trouble::Read),
+        FileAnswer::Mem => Err(Trouble::Memory),
+    }
+}
+
+// Puts in a row take a text, or its first bytes.
+#[tactic(auto, using(crate::proofs::Puts::puts))]
+fn copy_line<F: Files, S: Sink>(
+    alloc: Global,
+    files: &mut F,
+    name: &str,
+    out: &mut S,
+) -> Result<List<u8>, Trouble>
+    ensures whole { IfOk result (λ bytes.
+        Took (S.taken out.old) (name.now ++ codes ": " ++ bytes ++ codes "\n") (S.taken out.new)) }
+    ensures read { IsErrOf result Read → Rose (F.faults files.old) (F.faults files.new) }
+    ensures write { IsErrOf result Write → Rose (S.faults out.old) (S.faults out.new) }
+{
+    let bytes = load(alloc, files, name)?;
+    out.put(name.as_bytes())?;
+    out.put(b": ")?;
+    out.put(bytes.as_slice())?;
+    out.put(b"\n")?;
+    Ok(bytes)
+}
+
+#[tactic(auto, using(crate::proofs::Puts::puts))]
+fn put_three<S: Sink>(out: &mut S, first: &[u8], second: &[u8], third: &[u8]) -> Result<(), Trouble>
+    ensures whole { OnOk result
+        (Took (S.taken out.old) (first.now ++ second.now ++ third.now) (S.taken out.new)) }
+    ensures part { TookFirst (S.taken out.old) (first.now ++ second.now ++ third.now) (S.taken out.new) }
+    ensures write { IsErrOf result Write → Rose (S.faults out.old) (S.faults out.new) }
+{
+    out.put(first)?;
+    out.put(second)?;
+    out.put(third)?;
+    Ok(())
+}
+
+fn files_of(alloc: Global, failing: List<u64>) -> Result<MemoryFiles, Mem> {
+    let mut files = List::new(alloc);
+    for (name, bytes) in [
+        (b"a", b"12345678"),
+        (b"b", b"87654321"),
+        (b"a", b"        "),
+    ] {
+        let file = MemoryFile {
+            name: Name::new(alloc, name)?,
+            bytes: List::from_slice(alloc, bytes)?,
+        };
+        files.push(file).map_err(|_| Mem)?;
+    }
+    Ok(MemoryFiles::new(files, failing))
+}
+
+#[test]
+fn files_in_memory_answer_by_name(rt: HostRuntime) -> Result<(), Fail> {
+    let failing = List::from_slice(rt.alloc(), &[3])?;
+    let mut files = files_of(rt.alloc(), failing)?;
+    let bytes = load(rt.alloc(), &mut files, "a").ok().ok_or("a")?;
+    assert_eq!(rt; bytes.as_slice(), b"12345678".as_slice());
+    assert!(rt; matches!(load(rt.alloc(), &mut files, "c"), Err(Trouble::Missing)));
+    assert!(rt; matches!(load(rt.alloc(), &mut files, "b"), Err(Trouble::Read)));
+    assert_eq!(rt; files.faults(), 1);
+    assert!(rt; matches!(files.read(rt.alloc(), "b", 7), FileAnswer::TooBig));
+    assert!(rt; matches!(files.read(rt.alloc(), "b", 8), FileAnswer::Bytes(_)));
+    assert_eq!(rt; files.faults(), 1);
+    Ok(())
+}
+
+#[test]
+fn a_full_sink_has_the_first_bytes(rt: HostRuntime) -> Result<(), Fail> {
+    for room in 0..6 {
+        let mut out = MemorySink::new(rt.alloc(), room, List::new(rt.alloc()))?;
+        let answer = put_three(&mut out, b"ab", b"", b"cde");
+        assert_eq!(rt;
+            answer,
+            if room < 5 {
+                Err(Trouble::Write)
+            } else {
+                Ok(())
+            }
+        );
+        assert_eq!(rt; out.bytes(), &b"abcde"[..room]);
+        assert_eq!(rt; out.faults(), if room < 5 { 1 } else { 0 });
+    }
+    Ok(())
+}
+
+#[test]
+fn a_put_that_is_to_fail_takes_nothing(rt: HostRuntime) -> Result<(), Fail> {
+    let failing = List::from_slice(rt.alloc(), &[2, 3])?;
+    let mut out = MemorySink::new(rt.alloc(), 100, failing)?;
+    assert_eq!(rt;
+        put_three(&mut out, b"ab", b"", b"cde"),
+        Err(Trouble::Write)
+    );
+    assert_eq!(rt; out.bytes(), b"ab".as_slice());
+    assert_eq!(rt; out.put(b"f"), Ok(()));
+    assert_eq!(rt; out.bytes(), b"abf".as_slice());
+    Ok(())
+}
+
+#[test]
+fn a_line_is_copied(rt: HostRuntime) -> Result<(), Fail> {
+    let mut files = files_of(rt.alloc(), List::new(rt.alloc()))?;
+    let mut out = MemorySink::new(rt.alloc(), 100, List::new(rt.alloc()))?;
+    assert!(rt; copy_line(rt.alloc(), &mut files, "b", &mut out).is_ok());
+    assert_eq!(rt; out.bytes(), b"b: 87654321\n".as_slice());
+    Ok(())
+}
+
+#[test]
+fn a_clock_in_memory_repeats_its_last_answer(rt: HostRuntime) -> Result<(), Fail> {
+    let mut clock = MemoryClock::new(5, List::from_slice(rt.alloc(), &[5, 9, 7])?);
+    assert_eq!(rt; clock.now_ms(), 5);
+    assert_eq!(rt; clock.now_ms(), 5);
+    clock.wait_until(8);
+    assert_eq!(rt; clock.now_ms(), 9);
+    assert_eq!(rt; clock.now_ms(), 9);
+    clock.wait_until(12);
+    assert_eq!(rt; clock.now_ms(), 12);
+    assert_eq!(rt; clock.now_ms(), 12);
+    Ok(())
+}
+
+#[test]
+fn nobody_answers_a_dial(rt: HostRuntime) {
+    let mut dialer = NoDialer::new();
+    assert!(rt; matches!(dialer.dial(rt.alloc(), "h:1"), Err(DialFault::Refused)));
+    assert!(rt;
+        matches!(
+            dialer.dial_polled(rt.alloc(), "h:1"),
+            Err(DialFault::Refused)
+        )
+    );
+}
+
+#[test]
+fn the_systems_files_are_read(rt: HostRuntime) {
+    let mut files = SystemFiles::new(&rt);
+    assert!(rt; matches!(files.read(rt.alloc(), "/dev/null", 0), FileAnswer::Bytes(_)));
+    assert!(rt;
+        matches!(
+            files.read(rt.alloc(), "/dev/zero", 9000),
+            FileAnswer::TooBig
+        )
+    );
+    assert!(rt;
+        matches!(
+            files.read(rt.alloc(), "/no such file", 0),
+            FileAnswer::Absent
+        )
+    );
+    assert!(rt; matches!(files.read(rt.alloc(), "/", 100), FileAnswer::Failed));
+}
+
+#[test]
+fn the_systems_clock_waits(rt: HostRuntime) {
+    let mut clock = SystemClock::new(&rt);
+    let before = clock.now_ms();
+    clock.wait_until(before + 2);
+    assert!(rt; before + 2 <= clock.now_ms());
+}
+
+// A writer that takes a byte at a time, is interrupted before each, and at last takes nothing.
+#[derive(Drop)]
+struct Slow {
+    left: usize,
+    interrupts: bool,
+}
+
+impl io::Write for Slow {
+    fn write(&mut self, buf: &[u8]) -> io::Result<usize> {
+        self.interrupts = !self.interrupts;
+        if self.interrupts {
+            return Err(io::Error::from(io::ErrorKind::Interrupted));
+        }
+        if self.left == 0 || buf.is_empty() {
+            return Ok(0);
+        }
+        self.left -= 1;
+        Ok(1)
+    }
+
+    fn flush(&mut self) -> io::Result<()> {
+        Ok(())
+    }
+}
+
+#[test]
+fn a_writer_that_takes_nothing_more_has_failed(rt: HostRuntime) {
+    let mut out = WriterSink::new(Slow {
+        left: 5,
+        interrupts: false,
+    });
+    assert_eq!(rt; out.put(b"abc"), Ok(()));
+    assert_eq!(rt; out.put(b""), Ok(()));
+    assert_eq!(rt; out.put(b"def"), Err(PutFault { taken: 2 }));
+}

@@ -1,0 +1,22 @@
+-- What a reader of frames holds, and what it answers.
+use Rattle.std.specs.Prelude.{◌≡◌, ℕ, zero, suc, ◌+◌, ◌<◌, ◌≤◌, Bool, true, false, if◌then◌else◌, List, [], ◌∷◌, ◌++◌, length}
+use Rattle.aseba_message.specs.Frames.{length_word, is_bad, is_frame, frame_len}
+use Rattle.aseba_message.specs.declared.reader.Fed.{Fed}
+use Rattle.aseba_message.specs.declared.reader.Fed.TheVariants.{More, Whole, TooLong}
+
+-- the bytes that stand at the front of a stream, up to one whole frame or one bad length
+pub record Held (bytes : List ℕ) : Type 0 where
+  pub short : length bytes ≤ 1030
+  pub known : 2 < length bytes → (length_word bytes ≤ 1024) × (length bytes ≤ frame_len bytes)
+
+-- what the bytes held say of the last one
+abbrev pub answer : List ℕ → Fed
+answer bytes = if is_bad bytes then TooLong (length_word bytes) else (if is_frame bytes then Whole else More)
+
+-- the bytes of a begun frame: a whole one has made way
+abbrev pub begun : List ℕ → List ℕ
+begun bytes = if is_frame bytes then [] else bytes
+
+-- the bytes held after one more; behind a bad length nothing is taken
+abbrev pub fed : List ℕ → ℕ → List ℕ
+fed bytes byte = if is_bad bytes then bytes else begun bytes ++ byte ∷ []

@@ -1,0 +1,15 @@
+pub mod ConstantLaws
+pub mod CoreRows
+pub mod ElementLaws
+pub mod FaultRows
+pub mod NumberRows
+pub mod Robot
+pub mod Rows
+pub mod SizeLaws
+pub mod SoundProofs
+pub mod SpellLaws
+pub mod SpellRows
+pub mod Steps
+pub mod Texts
+pub mod TokenRows
+pub mod Written

@@ -1,0 +1,4 @@
+//! Copies and limits on small values.
+mod copies;
+mod limits;
+mod samples;

@@ -1,0 +1,7 @@
+pub mod Held
+pub mod Overwrites
+pub mod Sizes
+pub mod Ticks
+pub mod Tops
+pub mod Words
+pub mod Worked

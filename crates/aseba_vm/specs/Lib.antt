@@ -1,0 +1,11 @@
+pub mod Arrival
+pub mod Control
+pub mod Instructions
+pub mod Lists
+pub mod Loaded
+pub mod Outcome
+pub mod Rows
+pub mod StackView
+pub mod State
+pub mod Tick
+pub mod View
