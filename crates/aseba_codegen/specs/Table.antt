@@ -1,5 +1,5 @@
 -- The lines of a run of words by the machine alone. Where a source has the line of an effect, the machine has its counter.
-use Rattle.std.specs.Prelude.{ℕ, zero, suc, ◌+◌, ◌-◌, ◌≤◌, Bool, true, false, nat_lt, if◌then◌else◌, List, [], ◌∷◌, ◌++◌, length, map, filter_map, take, drop, slice_get, bytes_eq, position, Option, None, Some, option_map, option_and_then, unwrap_or, ℤ, codes}
+use Rattle.std.specs.Prelude.{ℕ, zero, suc, ◌+◌, ◌-◌, ◌≤◌, Bool, true, false, nat_lt, if◌then◌else◌, List, [], ◌∷◌, ◌++◌, length, map, filter_map, take, drop, slice_get, bytes_eq, find, position, sum_by, Option, None, Some, option_map, option_and_then, unwrap_or, ℤ, codes}
 use Rattle.aseba_tree.specs.Code.{Name, Sized, Project}
 use Rattle.aseba_tree.specs.Line.{Event, named, numbered, Report, began, ignored, dropped, killed, was_set, sent, division, bounds, Line, told, var, end}
 use Rattle.aseba_tree.specs.Script.{Action, arrives, sets, Script, actions_at}
@@ -15,12 +15,28 @@ use Rattle.aseba_vm.specs.Tick.{ticked}
 use Rattle.aseba_vm.specs.Arrival.{arrived}
 use Rattle.aseba_vm.specs.Control.{hold_written}
 use Rattle.aseba_vm.specs.Loaded.{made, loaded, reset_state}
-use Rattle.aseba_codegen.specs.Layout.{Placed, placed, Layout, placed_named}
+use Rattle.aseba_tree.specs.State.{Program, node_variables, declared}
+use Rattle.aseba_tree.specs.Layout.{Placed, placed_from, cells_of_variables}
+
+-- The variables of the node and the program's own, each with its place, and the number of all their cells. Temporaries lie behind them.
+pub record Layout : Type 0 where
+  pub node : List Placed
+  pub own : List Placed
+  pub cells : ℕ
+
+abbrev pub layout_of : Program → Layout
+layout_of program =
+    let node = node_variables program.project in
+    record { node = placed_from 0 node; own = placed_from (sum_by (λ v. v.size) node) (declared program); cells = cells_of_variables program }
+
+-- the first of these variables of a name
+abbrev pub placed_named : List Placed → Name → Option Placed
+placed_named variables name = find (λ v. bytes_eq v.name name) variables
 
 -- the shape of a node's machine
 abbrev pub shape_of : Project → Shape
 shape_of project =
-    let place = λ (name : Name). placed_named (record { node = placed 0 project.node.variables; own = []; cells = 0 }) name in
+    let place = λ (name : Name). placed_named (placed_from 0 project.node.variables) name in
     record
       { code = project.node.code
       ; cells = project.node.cells
@@ -84,7 +100,7 @@ writing (Some v) name first values run = telling run (hold_written (v.start + fi
 
 abbrev pub acting : Project → Layout → Run → Action → Run
 acting project layout run (arrives event source args) = arriving (event_number project event) event source args run
-acting project layout run (sets name first values) = writing (placed_named layout name) name first values run
+acting project layout run (sets name first values) = writing (placed_named (layout.node ++ layout.own) name) name first values run
 
 abbrev pub all_acting : Project → Layout → Run → List Action → Run
 all_acting project layout run [] = run

@@ -3,12 +3,12 @@ use Rattle.std.proofs.Common.{◌≡◌, ℕ, suc, ◌+◌, ◌≤◌, List, [],
 use Rattle.std.proofs.lemmas.List.Sums.{sum_by-cons}
 use Rattle.aseba_edge.specs.Sink.{Took, TookFirst}
 use Rattle.aseba_tree.specs.Line.{lines_text}
-use Rattle.aseba_codegen.specs.Layout.{Placed, Layout, placed, all_cells}
+use Rattle.aseba_tree.specs.Layout.{Placed, placed_from}
+use Rattle.aseba_codegen.specs.Table.{Layout}
 use Rattle.aseba_codegen.specs.Table.{table_lines}
-use Rattle.aseba_tools.specs.DefaultNode.{default_project, default_variables}
+use Rattle.aseba_tools.specs.DefaultNode.{default_project, default_variables, default_cells}
 use Rattle.aseba_tools.specs.Ended.{default_layout, IsSimText, Wrote, WroteFirst}
-use Rattle.aseba_tools.specs.SimText.{place_of, layout_with, sim_text}
-use Rattle.aseba_tools.specs.Words.{code_text}
+use Rattle.aseba_tools.specs.SimText.{place_of, layout_with, code_line, sim_text}
 use Rattle.aseba_tools.specs.declared.early.program.Variable.{Variable}
 use Rattle.aseba_tools.proofs.Writing.{took_nothing}
 
@@ -18,12 +18,12 @@ cells-places [] = refl
 cells-places (v ∷ own) = omega (arith, cells-places own, sum_by-cons (λ (p : Placed). p.size) (place_of v) (map place_of own))
 
 layouts : (own : List Variable) → layout_with own ≡ default_layout (map place_of own)
-layouts own = ap (λ n. record { node = placed 0 default_variables; own = map place_of own; cells = all_cells default_variables + n }) (cells-places own)
+layouts own = ap (λ n. record { node = placed_from 0 default_variables; own = map place_of own; cells = default_cells + n }) (cells-places own)
 
 -- what is written for a program that fits
 pub is_sim_text : (words : List ℕ) (own : List Variable) (ticks : ℕ) → length words ≤ 2048 → IsSimText ticks (sim_text words own ticks)
 is_sim_text words own ticks h =
-    record { words = words; own = map place_of own; fits = h; text_is = ap (λ l. code_text words ++ lines_text (table_lines default_project l words [] ticks)) (layouts own) }
+    record { words = words; own = map place_of own; fits = h; text_is = ap (λ l. code_line words ++ lines_text (table_lines default_project l words [] ticks)) (layouts own) }
 
 pub wrote : (words : List ℕ) (own : List Variable) (ticks : ℕ) {before after : Option (List ℕ)} → length words ≤ 2048 → Took before (sim_text words own ticks) after → Wrote ticks before after
 wrote words own ticks h took = record { text = sim_text words own ticks; is_sim = is_sim_text words own ticks h; took = took }

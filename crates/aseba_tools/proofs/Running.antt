@@ -3,7 +3,7 @@ use Rattle.std.proofs.Common.{◌≡◌, Bool, true, false, if◌then◌else◌,
 use Rattle.aseba_edge.specs.Sink.{Took, TookFewer, TookFirst}
 use Rattle.aseba_tree.specs.Line.{Line, lines_text}
 use Rattle.aseba_vm.specs.State.{State}
-use Rattle.aseba_codegen.specs.Layout.{Layout}
+use Rattle.aseba_codegen.specs.Table.{Layout}
 use Rattle.aseba_codegen.specs.Table.{Run, is_effect, ticking, all_ticking, beginning}
 use Rattle.aseba_tools.specs.DefaultNode.{default_project}
 use Rattle.aseba_tools.specs.SimText.{after_tick, silent, IsAt}

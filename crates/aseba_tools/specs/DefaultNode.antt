@@ -40,6 +40,10 @@ default_events = sized (codes "ping") 0 ∷ sized (codes "pong") 0 ∷ sized (co
 abbrev pub default_variables : List Sized
 default_variables = sized (codes "_id") 1 ∷ sized (codes "event.source") 1 ∷ sized (codes "event.args") 32 ∷ []
 
+-- the number of their cells
+abbrev pub default_cells : ℕ
+default_cells = 34
+
 unfoldable pub default_project : Project
 default_project = record
   { node = record

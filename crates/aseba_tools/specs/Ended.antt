@@ -1,12 +1,12 @@
 -- What a status says of a call of `sim`: why it came, and what was written.
-use Rattle.std.specs.Prelude.{◌≡◌, ℕ, ◌+◌, ◌<◌, ◌≤◌, Bool, true, false, MatchBool, List, [], ◌++◌, length, sum_by, Option, None, IfSome, IsSomeAnd}
+use Rattle.std.specs.Prelude.{◌≡◌, ℕ, ◌+◌, ◌<◌, ◌≤◌, Bool, true, false, MatchBool, List, [], ◌++◌, codes, length, sum_by, Option, None, IfSome, IsSomeAnd}
 use Rattle.aseba_edge.specs.Counts.{Counts}
 use Rattle.aseba_edge.specs.Sink.{Took, TookFirst}
-use Rattle.aseba_tree.specs.Line.{lines_text}
-use Rattle.aseba_codegen.specs.Layout.{Placed, placed, Layout, all_cells}
+use Rattle.aseba_tree.specs.Line.{code_text, lines_text}
+use Rattle.aseba_tree.specs.Layout.{Placed, placed_from}
+use Rattle.aseba_codegen.specs.Table.{Layout}
 use Rattle.aseba_codegen.specs.Table.{table_lines}
-use Rattle.aseba_tools.specs.DefaultNode.{default_project, default_variables}
-use Rattle.aseba_tools.specs.Words.{code_text}
+use Rattle.aseba_tools.specs.DefaultNode.{default_project, default_variables, default_cells}
 use Rattle.aseba_tools.specs.declared.refusal.Refusal.{Refusal}
 use Rattle.aseba_tools.specs.declared.status.Status.{Status}
 use Rattle.aseba_tools.specs.declared.status.Status.TheVariants.{Done, Usage, Absent, ReadFault, Refused, BadProject, BadScript, WriteFault, Memory, TooBig, BadFrame, NoNode, DialFault, LongStream}
@@ -56,14 +56,14 @@ Cause source held _ = ⊥
 
 -- the layout of the default node with variables of a program behind its own
 abbrev pub default_layout : List Placed → Layout
-default_layout own = record { node = placed 0 default_variables; own = own; cells = all_cells default_variables + sum_by (λ v. v.size) own }
+default_layout own = record { node = placed_from 0 default_variables; own = own; cells = default_cells + sum_by (λ v. v.size) own }
 
 -- The line of the words of some program that fit the node, and then the lines of the machine's run of them.
 pub record IsSimText (ticks : ℕ) (text : List ℕ) : Type 0 where
   pub words : List ℕ
   pub own : List Placed
   pub fits : length words ≤ 2048
-  pub text_is : text ≡ code_text words ++ lines_text (table_lines default_project (default_layout own) words [] ticks)
+  pub text_is : text ≡ code_text words ++ codes "\n" ++ lines_text (table_lines default_project (default_layout own) words [] ticks)
 
 -- all of such a text was written
 pub record Wrote (ticks : ℕ) (before after : Option (List ℕ)) : Type 0 where

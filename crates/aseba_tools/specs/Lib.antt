@@ -4,4 +4,3 @@ pub mod Ended
 pub mod SimEnd
 pub mod SimText
 pub mod StatusText
-pub mod Words

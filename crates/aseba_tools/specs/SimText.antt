@@ -1,11 +1,11 @@
 -- What `sim` writes.
-use Rattle.std.specs.Prelude.{◌≡◌, ℕ, ℤ, ◌+◌, ◌++◌, List, [], ◌∷◌, map, length}
-use Rattle.aseba_tree.specs.Line.{lines_text, end}
+use Rattle.std.specs.Prelude.{◌≡◌, ℕ, ℤ, ◌+◌, ◌++◌, codes, List, [], ◌∷◌, map, length}
+use Rattle.aseba_tree.specs.Line.{code_text, lines_text, end}
 use Rattle.aseba_vm.specs.State.{State}
-use Rattle.aseba_codegen.specs.Layout.{Placed, placed, Layout, all_cells}
+use Rattle.aseba_tree.specs.Layout.{Placed, placed_from}
+use Rattle.aseba_codegen.specs.Table.{Layout}
 use Rattle.aseba_codegen.specs.Table.{Run, ticking, all_ticking, beginning, var_lines, ended_lines, table_lines}
-use Rattle.aseba_tools.specs.DefaultNode.{default_project, default_variables}
-use Rattle.aseba_tools.specs.Words.{code_text}
+use Rattle.aseba_tools.specs.DefaultNode.{default_project, default_variables, default_cells}
 use Rattle.aseba_tools.specs.declared.early.program.Variable.{Variable}
 use Rattle.aseba_tools.specs.declared.lines.Moment.{Moment}
 
@@ -15,7 +15,7 @@ place_of v = record { name = v.name; start = v.address; size = 1 }
 
 -- the layout of a program with these variables on the default node
 abbrev pub layout_with : List Variable → Layout
-layout_with own = record { node = placed 0 default_variables; own = map place_of own; cells = all_cells default_variables + length own }
+layout_with own = record { node = placed_from 0 default_variables; own = map place_of own; cells = default_cells + length own }
 
 -- a run that has told nothing yet, at a moment
 abbrev pub silent : Moment → State → Run
@@ -47,6 +47,10 @@ ending_text own cells moment = lines_text (var_lines cells (map place_of own)) +
 abbrev pub run_text : List Variable → ℕ → State → List ℕ
 run_text own ticks machine = lines_text (ended_lines (layout_with own) (ticks_of own ticks machine))
 
+-- the line of the words
+abbrev pub code_line : List ℕ → List ℕ
+code_line words = code_text words ++ codes "\n"
+
 -- the line of the words, and then the lines of the machine's run of them
 abbrev pub sim_text : List ℕ → List Variable → ℕ → List ℕ
-sim_text words own ticks = code_text words ++ lines_text (table_lines default_project (layout_with own) words [] ticks)
+sim_text words own ticks = code_line words ++ lines_text (table_lines default_project (layout_with own) words [] ticks)

@@ -6,8 +6,7 @@ ghost use Rattle.aseba_tree.specs.Line.{blank_number, blank_cells, event_text, l
 ghost use Rattle.aseba_vm.specs.declared.tick.Tick.TheVariants.{Sent};
 ghost use Rattle.aseba_codegen.specs.Table.{event_of, tick_reports, var_lines};
 ghost use Rattle.aseba_tools.specs.DefaultNode.{default_project};
-ghost use Rattle.aseba_tools.specs.Words.{code_text};
-ghost use Rattle.aseba_tools.specs.SimText.{place_of};
+ghost use Rattle.aseba_tools.specs.SimText.{code_line, place_of};
 
 use std::alloc::Global;
 
@@ -25,8 +24,8 @@ pub struct Moment {
 }
 
 /// The line of a program's words.
-pub fn code_line(alloc: Global, words: &[u16]) -> Result<Text, Mem>
-    ensures { IfOk result (λ text. text ≡ code_text words.now) }
+pub fn words_line(alloc: Global, words: &[u16]) -> Result<Text, Mem>
+    ensures { IfOk result (λ text. text ≡ code_line words.now) }
 {
     let mut text = Text::new(alloc);
     text.push(b"code")?;

@@ -6,8 +6,7 @@ ghost use Rattle.aseba_edge.specs.Sink.{Took, TookFirst};
 ghost use Rattle.aseba_tree.specs.Line.{lines_text};
 ghost use Rattle.aseba_codegen.specs.Table.{is_effect, started, var_lines};
 ghost use Rattle.aseba_tools.specs.SimEnd.{is_write_fault};
-ghost use Rattle.aseba_tools.specs.SimText.{after_tick, end_text, ending_text, layout_with, place_of, run_text, sim_text, ticks_of, IsAt};
-ghost use Rattle.aseba_tools.specs.Words.{code_text};
+ghost use Rattle.aseba_tools.specs.SimText.{after_tick, code_line, end_text, ending_text, layout_with, place_of, run_text, sim_text, ticks_of, IsAt};
 ghost use Rattle.aseba_tools.specs.DefaultNode.{default_project};
 
 use std::alloc::Global;
@@ -17,7 +16,7 @@ use aseba_vm::{Machine, Tick};
 use aseba_words::Mem;
 
 use crate::early::{Program, Variable};
-use crate::lines::{Moment, code_line, end_line, notice_line, var_line};
+use crate::lines::{Moment, end_line, notice_line, var_line, words_line};
 use crate::node;
 use crate::text::Text;
 
@@ -167,11 +166,11 @@ fn put_end<S: Sink>(alloc: Global, end: Moment, out: &mut S) -> Result<(), SimEn
 /// Writes the line of the words.
 #[tactic(auto, using(crate::proofs::Writing::put_steps))]
 fn put_code<S: Sink>(alloc: Global, words: &[u16], out: &mut S) -> Result<(), SimEnd>
-    ensures whole { OnOk result (Took (S.taken out.old) (code_text words.now) (S.taken out.new)) }
-    ensures part { OnErr result (TookFirst (S.taken out.old) (code_text words.now) (S.taken out.new)) }
+    ensures whole { OnOk result (Took (S.taken out.old) (code_line words.now) (S.taken out.new)) }
+    ensures part { OnErr result (TookFirst (S.taken out.old) (code_line words.now) (S.taken out.new)) }
     ensures count { Counts (is_write_fault result) (S.faults out.old) (S.faults out.new) }
 {
-    let line = code_line(alloc, words)?;
+    let line = words_line(alloc, words)?;
     put_text(out, &line)
 }
 

@@ -1,7 +1,6 @@
-ghost use Rattle.std.specs.Prelude.{◌≡◌, ◌<◌, [], ◌++◌, false, decimal, OnOk, OnErr};
+ghost use Rattle.std.specs.Prelude.{◌≡◌, ◌<◌, [], ◌++◌, false, codes, decimal, flat_map, OnOk, OnErr};
 ghost use Rattle.std.specs.Fmt.{signed_decimal, digit_glyph};
-ghost use Rattle.aseba_tools.specs.Words.{hexadecimal, blank_words};
-ghost use Rattle.aseba_tree.specs.Line.{blank_cells};
+ghost use Rattle.aseba_tree.specs.Line.{blank_cells, word_text};
 
 use std::alloc::Global;
 use std::marker::Model;
@@ -80,7 +79,7 @@ impl Text {
 
     /// Adds words, each behind a blank.
     pub fn push_words(&mut self, words: &[u16]) -> Result<(), Mem>
-        ensures { OnOk result (self.new ≡ self.old ++ blank_words words.now) }
+        ensures { OnOk result (self.new ≡ self.old ++ flat_map (λ word. codes " " ++ word_text word) words.now) }
     {
         for word in words {
             self.push(b" ")?;
@@ -91,7 +90,7 @@ impl Text {
 
     /// Adds a word as four hexadecimal digits.
     pub fn push_word(&mut self, word: u16) -> Result<(), Mem>
-        ensures ok { OnOk result (self.new ≡ self.old ++ hexadecimal word) }
+        ensures ok { OnOk result (self.new ≡ self.old ++ word_text word) }
         ensures unchanged { OnErr result (self.new ≡ self.old) }
     {
         let digits = [
