@@ -124,6 +124,7 @@ either-same true x y s h g = h
 either-same false x y s h g = g
 
 pub ticked-same : (s : State) → sizes (ticked s).1 ≡ sizes s
+unfolding ticked
 ticked-same s =
     let run : Tick × State = settled (stepped s).0 (stepped s).1 in
     either-same s.active (if s.paused then (Paused, s) else run) (Idle, s) s

@@ -46,11 +46,11 @@ abbrev for_loop : List ℕ
 for_loop = 3 ∷ 0xffff ∷ 3 ∷ 0x1001 ∷ 0x4022 ∷ 0x3022 ∷ 0x1002 ∷ 0xa00f ∷ 7 ∷ 0x3022 ∷ 0x1001 ∷ 0x8002 ∷ 0x4022 ∷ 0x9ff8 ∷ 0 ∷ []
 
 for_loop-counts : (ticks 30 (begun for_loop)).0 ≡ 9
-unfolding made int_wrap
+unfolding made loaded reset_state arrived ticked int_wrap
 for_loop-counts = refl
 
 for_loop-ends : variable (ticks 30 (begun for_loop)).1 ≡ Some (pos 3)
-unfolding made int_wrap
+unfolding made loaded reset_state arrived ticked int_wrap
 for_loop-ends = refl
 
 -- a subroutine sets a variable to 5
@@ -58,11 +58,11 @@ abbrev sub_call : List ℕ
 sub_call = 3 ∷ 0xffff ∷ 3 ∷ 0xd005 ∷ 0 ∷ 0x1005 ∷ 0x4022 ∷ 0xe000 ∷ []
 
 sub_call-counts : (ticks 10 (begun sub_call)).0 ≡ 4
-unfolding made int_wrap
+unfolding made loaded reset_state arrived ticked int_wrap
 sub_call-counts = refl
 
 sub_call-ends : variable (ticks 10 (begun sub_call)).1 ≡ Some (pos 5)
-unfolding made int_wrap
+unfolding made loaded reset_state arrived ticked int_wrap
 sub_call-ends = refl
 
 -- a `when` counts how often the first argument of event 2 becomes 1
@@ -77,7 +77,7 @@ pairs (first ∷ firsts) s =
     let rest = pairs firsts run.1 in (run.0 ∷ rest.0, rest.1)
 
 when_edge-counts : pairs (pos 0 ∷ pos 1 ∷ pos 1 ∷ pos 0 ∷ pos 1 ∷ []) (ticks 10 (begun when_edge)).1 ≡ (2 ∷ 3 ∷ 2 ∷ 2 ∷ 3 ∷ [], Some (pos 2))
-unfolding made int_wrap
+unfolding made loaded reset_state arrived ticked int_wrap
 when_edge-counts = refl
 
 -- a second event kills the handler of the first inside an expression
@@ -89,19 +89,19 @@ abbrev kill_inside : State → State
 kill_inside s = (ticks 2 (event 0 [] (ticks 10 s).1)).1
 
 kill-answer : (arrived 0 0 [] (kill_inside (begun kill))).0 ≡ Killed 10
-unfolding made int_wrap
+unfolding made loaded reset_state arrived ticked int_wrap
 kill-answer = refl
 
 kill-emits : (ticked (ticks 4 (event 0 [] (kill_inside (begun kill)))).1).0 ≡ Sent (Emit 1 0 0)
-unfolding made int_wrap
+unfolding made loaded reset_state arrived ticked int_wrap
 kill-emits = refl
 
 kill-counts : (ticks 8 (event 0 [] (kill_inside (begun kill)))).0 ≡ 3
-unfolding made int_wrap
+unfolding made loaded reset_state arrived ticked int_wrap
 kill-counts = refl
 
 kill-ends : variable (ticks 8 (event 0 [] (kill_inside (begun kill)))).1 ≡ Some (pos 2)
-unfolding made int_wrap
+unfolding made loaded reset_state arrived ticked int_wrap
 kill-ends = refl
 
 -- a return without a call finds no address on the stack
@@ -109,13 +109,13 @@ abbrev return_alone : List ℕ
 return_alone = 3 ∷ 0xffff ∷ 3 ∷ 0xe000 ∷ []
 
 return_alone-answer : (ticked (begun return_alone)).0 ≡ Sent (NodeError 3 Stack)
-unfolding made
+unfolding made loaded reset_state arrived ticked
 return_alone-answer = refl
 
 return_alone-pauses : (ticked (begun return_alone)).1.paused ≡ true
-unfolding made
+unfolding made loaded reset_state arrived ticked
 return_alone-pauses = refl
 
 return_alone-ends : (ticked (ticked (begun return_alone)).1).0 ≡ Idle
-unfolding made
+unfolding made loaded reset_state arrived ticked
 return_alone-ends = refl

@@ -20,5 +20,5 @@ arrived_at None source args s = (NoHandler, s)
 arrived_at (Some address) source args s =
     if s.active then (if s.paused then (Dropped, s) else (Killed s.pc, begun address source args (ended s))) else (Started, begun address source args s)
 
-abbrev pub arrived : ℕ → ℕ → List ℤ → State → Arrival × State
+unfoldable pub arrived : ℕ → ℕ → List ℤ → State → Arrival × State
 arrived event source args s = arrived_at (handler_of event s.code) source args s

@@ -10,7 +10,7 @@ written start values s =
     if s.active then record s { held = overwritten start (map Some values) s.held } else record s { cells = overwritten start values s.cells }
 
 -- the same where all of them have a cell
-abbrev pub hold_written : ℕ → List ℤ → State → Result Unit OutOfCells × State
+unfoldable pub hold_written : ℕ → List ℤ → State → Result Unit OutOfCells × State
 hold_written start values s =
     let end = start + length values in
     if nat_le end s.shape.cells then (Ok tt, written start values s) else (Err (record { end = end; size = s.shape.cells }), s)

@@ -24,7 +24,7 @@ made shape id = record {
 }
 
 -- words into the code from a place on, where they all fit
-abbrev pub loaded : ℕ → List ℕ → State → Result Unit OutOfCode × State
+unfoldable pub loaded : ℕ → List ℕ → State → Result Unit OutOfCode × State
 loaded start words s =
     let end = start + length words in
     if nat_le end s.shape.code
@@ -41,6 +41,6 @@ started None s = record s { pc = 0; active = false }
 started (Some address) s = record s { pc = address; active = true }
 
 -- nothing is held, on the stack or in a cell but the id; the code stays
-abbrev pub reset_state : Bool → State → State
+unfoldable pub reset_state : Bool → State → State
 reset_state paused s =
     started (handler_of init_event s.code) (record s { cells = fresh_cells s.shape s.id; stack = []; paused = paused; held = none_held s.held })

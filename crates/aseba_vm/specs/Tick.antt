@@ -19,6 +19,6 @@ abbrev pub stepped : State → Outcome Tick
 stepped s = given (slice_get s.code s.pc) (faulting Code s) (λ word. row (opcode_of word) word s)
 
 -- nothing where the machine is idle or paused, else one instruction
-abbrev pub ticked : State → Tick × State
+unfoldable pub ticked : State → Tick × State
 ticked s =
     if s.active then (if s.paused then (Paused, s) else (let outcome = stepped s in settled outcome.0 outcome.1)) else (Idle, s)

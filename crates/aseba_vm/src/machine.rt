@@ -1,4 +1,4 @@
-ghost use Rattle.std.specs.Prelude.{◌≡◌, IfOk};
+ghost use Rattle.std.specs.Prelude.{◌≡◌, IfOk, length};
 ghost use Rattle.aseba_vm.specs.Loaded.{made};
 ghost use Rattle.aseba_vm.specs.State.{NamesInside};
 
@@ -100,14 +100,16 @@ impl Machine {
 
     /// All cells, by address. Held values aren't in them yet.
     pub fn cells(&self) -> &[i16]
-        ensures { result.now ≡ self.now.cells }
+        ensures value { result.now ≡ self.now.cells }
+        ensures size { length result.now ≡ self.now.shape.cells }
     {
         self.cells.as_slice()
     }
 
     /// All words of the code.
     pub fn code(&self) -> &[u16]
-        ensures { result.now ≡ self.now.code }
+        ensures value { result.now ≡ self.now.code }
+        ensures size { length result.now ≡ self.now.shape.code }
     {
         self.code.as_slice()
     }

@@ -9,6 +9,7 @@ impl Machine {
     /// Takes an event from a sender. An event with a handler begins it, and kills the one that runs,
     /// whose held values are applied first; a machine that is paused inside a handler drops it.
     /// Arguments that don't fit `event.args` are cut off, and cells without an argument stay.
+    #[tactic(auto, unfolding(crate::specs::Arrival::arrived))]
     pub fn arrive(&mut self, event: u16, source: u16, args: &[i16]) -> Arrival
         ensures answer { result ≡ (arrived event source args.now self.old).0 }
         ensures state { self.new ≡ (arrived event source args.now self.old).1 }

@@ -10,6 +10,7 @@ const INIT_EVENT: u16 = 0xffff;
 
 impl Machine {
     /// Puts words into the code from a place on. Where they pass its end, nothing changes.
+    #[tactic(auto, unfolding(crate::specs::Loaded::loaded))]
     pub fn load(&mut self, start: u16, words: &[u16]) -> Result<(), OutOfCode>
         ensures answer { result ≡ (loaded start words.now self.old).0 }
         ensures state { self.new ≡ (loaded start words.now self.old).1 }
@@ -26,6 +27,7 @@ impl Machine {
     /// Begins anew: nothing is held or on the stack, all cells are 0 but `_id`, and the init code
     /// begins, if there is one. Without it the machine is idle and the counter 0. The code stays,
     /// with what each `when` remembers.
+    #[tactic(auto, unfolding(crate::specs::Loaded::reset_state))]
     pub fn reset(&mut self, paused: bool)
         ensures { self.new ≡ reset_state paused self.old }
     {

@@ -8,6 +8,7 @@ use crate::tick::{NodeFault, Notice, Tick};
 
 impl Machine {
     /// One tick: the instruction at the counter, or nothing where the machine is idle or paused.
+    #[tactic(auto, unfolding(crate::specs::Tick::ticked))]
     pub fn tick(&mut self) -> Tick
         ensures answer { result ≡ (ticked self.old).0 }
         ensures state { self.new ≡ (ticked self.old).1 }

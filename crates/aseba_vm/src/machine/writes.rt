@@ -9,6 +9,7 @@ impl Machine {
     /// Writes values into the cells from an address on. While a handler is active they are held,
     /// each in the place of an earlier one for its cell, and stored when the handler has ended.
     /// Where they pass the last cell, nothing changes.
+    #[tactic(auto, unfolding(crate::specs::Control::hold_written))]
     pub fn hold_write(&mut self, start: u16, values: &[i16]) -> Result<(), OutOfCells>
         ensures answer { result ≡ (hold_written start values.now self.old).0 }
         ensures state { self.new ≡ (hold_written start values.now self.old).1 }
