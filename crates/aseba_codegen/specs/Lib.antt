@@ -1,1 +1,3 @@
+pub mod Beats
 pub mod Table
+pub mod Worked

@@ -37,15 +37,15 @@ placed_named variables name = find (λ v. bytes_eq v.name name) variables
 abbrev pub shape_of : Project → Shape
 shape_of project =
     let place = λ (name : Name). placed_named (placed_from 0 project.node.variables) name in
-    record
-      { code = project.node.code
-      ; cells = project.node.cells
-      ; stack = project.node.stack
-      ; id = option_map (λ v. v.start) (place (codes "_id"))
-      ; source = option_map (λ v. v.start) (place (codes "event.source"))
-      ; args_at = unwrap_or (option_map (λ v. v.start) (place (codes "event.args"))) 0
-      ; args_len = unwrap_or (option_map (λ v. v.size) (place (codes "event.args"))) 0
-      }
+    record {
+      code = project.node.code;
+      cells = project.node.cells;
+      stack = project.node.stack;
+      id = option_map (λ v. v.start) (place (codes "_id"));
+      source = option_map (λ v. v.start) (place (codes "event.source"));
+      args_at = unwrap_or (option_map (λ v. v.start) (place (codes "event.args"))) 0;
+      args_len = unwrap_or (option_map (λ v. v.size) (place (codes "event.args"))) 0;
+    }
 
 -- a number of an event in the event table of a program: global events count from 0, local ones from 65534 down
 abbrev pub global_number : Project → Name → Option ℕ

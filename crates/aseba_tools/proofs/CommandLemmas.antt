@@ -1,5 +1,5 @@
 -- Four words that are a command line, or none.
-use Rattle.std.proofs.Common.{◌≡◌, ℕ, suc, ◌<◌, List, [], ◌∷◌, length, get_or, map, string_bytes, String, Global, codes, refl, ap, sym, subst, ◌∙◌, arith, Bool, true, false, not, nat_eq}
+use Rattle.std.proofs.Common.{◌≡◌, ℕ, List, [], ◌∷◌, length, get_or, map, string_bytes, String, Global, codes, refl, ap, sym, subst, ◌∙◌, arith, Bool, true, false, not, nat_eq}
 use Rattle.std.specs.Cmp.Lexicographic.{pointwise, bytes_decides}
 use Rattle.aseba_tools.specs.Command.{IsSim, IsNoSim, IsTicks, IsNoTicks}
 

@@ -1,5 +1,5 @@
 -- The default node's machine takes any program that its compiler gives.
-use Rattle.std.proofs.Common.{◌≡◌, true, Err, false, ℕ, ◌+◌, ◌≤◌, List, length, Some, refl, arith, nat_le, Ok, ap, ◌∙◌, lit<}
+use Rattle.std.proofs.Common.{◌≡◌, true, Err, false, ℕ, ◌+◌, ◌≤◌, List, length, refl, arith, nat_le, ap, ◌∙◌, lit<}
 use Rattle.std.proofs.lemmas.Bool.Decides.{nat_tests}
 use Rattle.aseba_vm.specs.declared.refusals.OutOfCode.{OutOfCode}
 use Rattle.aseba_vm.specs.declared.shape.Shape.{Shape}
@@ -30,6 +30,7 @@ takes_words words s e h =
     rw size (grind (arith, nat_tests))
 
 pub never_refused : (words : List ℕ) (s : State) (refusal : OutOfCode) → s ≡ made (shape_of default_project) 1 → length words ≤ 2048 → Err refusal ≡ (loaded 0 words s).0 → ⊥
+unfolding loaded
 never_refused words s refusal e h refused =
     let fits = takes_words words s e h in
     let r = rw fits at refused in

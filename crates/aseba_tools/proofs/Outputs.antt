@@ -1,10 +1,9 @@
 -- What a run of a compiled program wrote, as what `sim` writes for some program.
-use Rattle.std.proofs.Common.{◌≡◌, ℕ, suc, ◌+◌, ◌≤◌, List, [], ◌∷◌, ◌++◌, map, length, sum_by, Option, ap, sym, ◌∙◌, subst, refl, arith, add-one}
+use Rattle.std.proofs.Common.{◌≡◌, ℕ, ◌+◌, ◌≤◌, List, [], ◌∷◌, ◌++◌, map, length, sum_by, Option, ap, refl, arith}
 use Rattle.std.proofs.lemmas.List.Sums.{sum_by-cons}
 use Rattle.aseba_edge.specs.Sink.{Took, TookFirst}
 use Rattle.aseba_tree.specs.Line.{lines_text}
 use Rattle.aseba_tree.specs.Layout.{Placed, placed_from}
-use Rattle.aseba_codegen.specs.Table.{Layout}
 use Rattle.aseba_codegen.specs.Table.{table_lines}
 use Rattle.aseba_tools.specs.DefaultNode.{default_project, default_variables, default_cells}
 use Rattle.aseba_tools.specs.Ended.{default_layout, IsSimText, Wrote, WroteFirst}

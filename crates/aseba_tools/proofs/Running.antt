@@ -1,6 +1,6 @@
 -- A run in the middle: what it has told was written, and what is left to do leads to the same end.
-use Rattle.std.proofs.Common.{◌≡◌, Bool, true, false, if◌then◌else◌, ℕ, zero, suc, ◌+◌, ◌-◌, ◌≤◌, ◌<◌, List, [], ◌∷◌, ◌++◌, Option, refl, ap, sym, ◌∙◌, subst, append_assoc, append-nil, arith}
-use Rattle.aseba_edge.specs.Sink.{Took, TookFewer, TookFirst}
+use Rattle.std.proofs.Common.{◌≡◌, Bool, true, false, if◌then◌else◌, ℕ, zero, suc, ◌+◌, ◌-◌, ◌≤◌, ◌<◌, List, [], ◌++◌, Option, refl, ap, sym, ◌∙◌, subst, append_assoc, append-nil, arith}
+use Rattle.aseba_edge.specs.Sink.{Took, TookFirst}
 use Rattle.aseba_tree.specs.Line.{Line, lines_text}
 use Rattle.aseba_vm.specs.State.{State}
 use Rattle.aseba_codegen.specs.Table.{Layout}
@@ -57,9 +57,9 @@ one_more layout first before ticks done moment machine mid next machine' after h
       lines = told;
       written = subst (λ (t : List ℕ). Took before t after) (sym (lines_text-append in_run.lines one.lines)) (took_after before mid after (lines_text in_run.lines) (lines_text one.lines) in_run.written took);
       goes_on =
-        ap (all_ticking default_project layout [] (ticks - (done + 1))) (sym (at_lines one next machine' told at) ∙ sym (ticking-lines layout moment machine in_run.lines))
-        ∙ ap (λ n. all_ticking default_project layout [] n (record (silent moment machine) { lines = in_run.lines })) (one_less done ticks h)
-        ∙ in_run.goes_on;
+          ap (all_ticking default_project layout [] (ticks - (done + 1))) (sym (at_lines one next machine' told at) ∙ sym (ticking-lines layout moment machine in_run.lines))
+          ∙ ap (λ n. all_ticking default_project layout [] n (record (silent moment machine) { lines = in_run.lines })) (one_less done ticks h)
+          ∙ in_run.goes_on;
       at = omega (arith, at.ticks, in_run.at);
       few = omega (arith, at.effects, in_run.few, few_more (is_effect layout.cells (ticked machine).0));
     }
@@ -71,17 +71,18 @@ cut_short layout first before ticks done moment machine mid after h in_run part 
     let ran : Run = record (silent moment machine) { lines = in_run.lines } in
     let rest = lines_stay layout (ticks - (done + 1)) (ticking default_project layout [] ran) in
     let all : (all_ticking default_project layout [] ticks (beginning first)).lines ≡ (in_run.lines ++ one.lines) ++ rest.0 =
-        ap (λ (r : Run). r.lines) (sym in_run.goes_on ∙ ap (λ n. all_ticking default_project layout [] n ran) (sym (one_less done ticks h))) ∙ rest.1 in
+    ap (λ (r : Run). r.lines) (sym in_run.goes_on ∙ ap (λ n. all_ticking default_project layout [] n ran) (sym (one_less done ticks h))) ∙ rest.1 in
     let text = ap lines_text all ∙ lines_text-append (in_run.lines ++ one.lines) rest.0 ∙ ap (λ t. t ++ lines_text rest.0) (lines_text-append in_run.lines one.lines) in
     subst (λ (t : List ℕ). TookFirst before t after) (sym text)
-      (first_of_more before (lines_text in_run.lines ++ lines_text one.lines) (lines_text rest.0) after
-        (first_after before mid after (lines_text in_run.lines) (lines_text one.lines) in_run.written part))
+    (first_of_more before (lines_text in_run.lines ++ lines_text one.lines) (lines_text rest.0) after
+    (first_after before mid after (lines_text in_run.lines) (lines_text one.lines) in_run.written part))
 
 -- all ticks are done
 pub ran_whole : (layout : Layout) (first : State) (before : Option (List ℕ)) (ticks : ℕ) (moment : Moment) (machine : State) (after : Option (List ℕ)) → InRun layout first before ticks ticks moment machine after → IsAt (all_ticking default_project layout [] ticks (beginning first)) moment machine × Took before (lines_text (all_ticking default_project layout [] ticks (beginning first)).lines) after
 ran_whole layout first before ticks moment machine after in_run =
     let none : 0 ≡ ticks - ticks = omega arith in
     let whole : record (silent moment machine) { lines = in_run.lines } ≡ all_ticking default_project layout [] ticks (beginning first) =
-        ap (λ n. all_ticking default_project layout [] n (record (silent moment machine) { lines = in_run.lines })) none ∙ in_run.goes_on in
-    ( record { ticks = ap (λ (r : Run). r.ticks) (sym whole); effects = ap (λ (r : Run). r.effects) (sym whole); machine_is = ap (λ (r : Run). r.machine) (sym whole) }
-    , subst (λ (r : Run). Took before (lines_text r.lines) after) whole in_run.written )
+    ap (λ n. all_ticking default_project layout [] n (record (silent moment machine) { lines = in_run.lines })) none ∙ in_run.goes_on in (
+      record { ticks = ap (λ (r : Run). r.ticks) (sym whole); effects = ap (λ (r : Run). r.effects) (sym whole); machine_is = ap (λ (r : Run). r.machine) (sym whole) },
+      subst (λ (r : Run). Took before (lines_text r.lines) after) whole in_run.written,
+    )

@@ -2,8 +2,8 @@
 use Rattle.std.proofs.Common.{◌≡◌, refl, ℕ, List, [], ◌∷◌, ◌++◌, map, ap, sym, ◌∙◌, append_assoc}
 use Rattle.aseba_tree.specs.Line.{lines_text, end}
 use Rattle.aseba_vm.specs.State.{State}
-use Rattle.aseba_codegen.specs.Table.{Run, var_lines}
-use Rattle.aseba_tools.specs.SimText.{place_of, ticks_of, run_text, end_text, ending_text, IsAt}
+use Rattle.aseba_codegen.specs.Table.{var_lines}
+use Rattle.aseba_tools.specs.SimText.{place_of, ticks_of, run_text, ending_text, IsAt}
 use Rattle.aseba_tools.specs.declared.early.program.Variable.{Variable}
 use Rattle.aseba_tools.specs.declared.lines.Moment.{Moment}
 use Rattle.aseba_tools.proofs.Writing.{lines_text-append}
@@ -22,4 +22,4 @@ run_parts own ticks first machine moment at =
 pub run_begins : (own : List Variable) (ticks : ℕ) (first : State) → lines_text (ticks_of own ticks first).lines ++ ending_text own (ticks_of own ticks first).machine.cells (record { ticks = (ticks_of own ticks first).ticks; effects = (ticks_of own ticks first).effects }) ≡ run_text own ticks first
 run_begins own ticks first =
     run_parts own ticks first (ticks_of own ticks first).machine (record { ticks = (ticks_of own ticks first).ticks; effects = (ticks_of own ticks first).effects })
-      (record { ticks = refl; effects = refl; machine_is = refl })
+    (record { ticks = refl; effects = refl; machine_is = refl })

@@ -33,5 +33,5 @@ module _ (before mid after : Option (List ℕ)) (text whole : List ℕ) (cells :
   pub variable_cut_short : TookFirst mid (lines_text (var_lines cells (place_of v ∷ []))) after → TookFirst before whole after
   variable_cut_short part =
       subst (λ (t : List ℕ). TookFirst before t after) completes
-        (first_of_more before (text ++ lines_text (var_lines cells (place_of v ∷ []))) (rest_text cells vs (i + 1)) after
-          (first_after before mid after text (lines_text (var_lines cells (place_of v ∷ []))) took part))
+      (first_of_more before (text ++ lines_text (var_lines cells (place_of v ∷ []))) (rest_text cells vs (i + 1)) after
+      (first_after before mid after text (lines_text (var_lines cells (place_of v ∷ []))) took part))

@@ -62,9 +62,9 @@ first_after (Some b) (Some m) (Some a) text next took first =
     let size : length a - length m ≡ length a - length b - length text = omega (arith, ap length mids, long) in
     let reach : length text ≤ length a - length b = omega (arith, ap length mids, long, ap length ends, whole) in
     ap Some
-      (ends ∙ ap (λ n. m ++ take n next) size ∙ ap (λ x. x ++ take (length a - length b - length text) next) mids
-      ∙ append_assoc b text (take (length a - length b - length text) next)
-      ∙ ap (λ x. b ++ x) (sym (take_past (length a - length b) text next reach)))
+    (ends ∙ ap (λ n. m ++ take n next) size ∙ ap (λ x. x ++ take (length a - length b - length text) next) mids
+    ∙ append_assoc b text (take (length a - length b - length text) next)
+    ∙ ap (λ x. b ++ x) (sym (take_past (length a - length b) text next reach)))
 
 -- a text in two parts, which are put one after the other
 module _ (before mid after : Option (List ℕ)) (first second whole : List ℕ) (parts : first ++ second ≡ whole) where

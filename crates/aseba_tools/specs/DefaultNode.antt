@@ -1,6 +1,6 @@
 -- The default node with its project: what a source is compiled for where no project file is named.
-use Rattle.std.specs.Prelude.{ℕ, List, [], ◌∷◌, ℤ, pos, negsuc, codes}
-use Rattle.aseba_tree.specs.Code.{Name, Sized, Param, Native, Description, Project}
+use Rattle.std.specs.Prelude.{ℕ, List, [], ◌∷◌, pos, codes}
+use Rattle.aseba_tree.specs.Code.{Name, Sized, Param, Native, Project}
 use Rattle.aseba_words.specs.Natives.{template}
 
 abbrev sized : Name → ℕ → Sized
@@ -45,10 +45,10 @@ abbrev pub default_cells : ℕ
 default_cells = 34
 
 unfoldable pub default_project : Project
-default_project = record
-  { node = record
-      { name = codes "sim"; code = 2048; stack = 64; cells = 1024; variables = default_variables; locals = []; natives = default_natives }
-  ; id = 1
-  ; events = default_events
-  ; consts = []
-  }
+default_project = record {
+  node = record
+      { name = codes "sim"; code = 2048; stack = 64; cells = 1024; variables = default_variables; locals = []; natives = default_natives };
+  id = 1;
+  events = default_events;
+  consts = [];
+}

@@ -7,9 +7,8 @@ use Rattle.aseba_tree.specs.Layout.{Placed, placed_from}
 use Rattle.aseba_codegen.specs.Table.{Layout}
 use Rattle.aseba_codegen.specs.Table.{table_lines}
 use Rattle.aseba_tools.specs.DefaultNode.{default_project, default_variables, default_cells}
-use Rattle.aseba_tools.specs.declared.refusal.Refusal.{Refusal}
 use Rattle.aseba_tools.specs.declared.status.Status.{Status}
-use Rattle.aseba_tools.specs.declared.status.Status.TheVariants.{Done, Usage, Absent, ReadFault, Refused, BadProject, BadScript, WriteFault, Memory, TooBig, BadFrame, NoNode, DialFault, LongStream}
+use Rattle.aseba_tools.specs.declared.status.Status.TheVariants.{Done, Absent, ReadFault, Refused, WriteFault, Memory, TooBig}
 
 -- the status says that a read failed, or that a write did
 abbrev pub is_read_fault : Status → Bool

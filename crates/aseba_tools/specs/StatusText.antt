@@ -1,5 +1,5 @@
 -- The numbers of the statuses, and what is told of them.
-use Rattle.std.specs.Prelude.{ℕ, List, [], ◌∷◌, ◌++◌, codes, decimal}
+use Rattle.std.specs.Prelude.{ℕ, List, [], ◌++◌, codes, decimal}
 use Rattle.aseba_tools.specs.declared.refusal.Refusal.{Refusal}
 use Rattle.aseba_tools.specs.declared.refusal.Refusal.TheVariants.{NotBuilt}
 use Rattle.aseba_tools.specs.declared.status.Status.{Status}

@@ -16,3 +16,6 @@ mod top;
 pub use refusal::Refusal;
 pub use status::Status;
 pub use top::{Ran, run};
+
+#[cfg(test)]
+mod tests;

@@ -8,13 +8,11 @@ ghost use Rattle.aseba_codegen.specs.Table.{event_of, tick_reports, var_lines};
 ghost use Rattle.aseba_tools.specs.DefaultNode.{default_project};
 ghost use Rattle.aseba_tools.specs.SimText.{code_line, place_of};
 
-use std::alloc::Global;
-
-use aseba_vm::Notice;
-use aseba_words::Mem;
-
 use crate::early::Variable;
 use crate::text::Text;
+use aseba_vm::Notice;
+use aseba_words::Mem;
+use std::alloc::Global;
 
 /// When something happens in a run: after so many ticks, and with so many effects.
 #[derive(Clone, Copy, Debug)]
@@ -35,11 +33,21 @@ pub fn words_line(alloc: Global, words: &[u16]) -> Result<Text, Mem>
 }
 
 /// The line of a notice. A node error has none.
-pub fn notice_line(alloc: Global, moment: Moment, notice: Notice, cells: &[i16]) -> Result<Text, Mem>
+pub fn notice_line(
+    alloc: Global,
+    moment: Moment,
+    notice: Notice,
+    cells: &[i16],
+) -> Result<Text, Mem>
     ensures { IfOk result (λ text. text ≡ lines_text (map (told moment.ticks moment.effects) (tick_reports default_project cells.now (Sent notice)))) }
 {
     match notice {
-        Notice::Emit { event, start, len } => emit_line(alloc, moment, event, part(cells, start, len)),
+        Notice::Emit { event, start, len } => emit_line(
+            alloc,
+            moment,
+            event,
+            part(cells, start, len),
+        ),
         Notice::Bounds { pc, size, index } => bounds_line(alloc, moment, pc, size, index),
         Notice::Division { pc } => division_line(alloc, moment, pc),
         Notice::NodeError { .. } => Ok(Text::new(alloc)),

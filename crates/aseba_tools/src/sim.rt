@@ -9,16 +9,14 @@ ghost use Rattle.aseba_tools.specs.SimEnd.{is_write_fault};
 ghost use Rattle.aseba_tools.specs.SimText.{after_tick, code_line, end_text, ending_text, layout_with, place_of, run_text, sim_text, ticks_of, IsAt};
 ghost use Rattle.aseba_tools.specs.DefaultNode.{default_project};
 
-use std::alloc::Global;
-
-use aseba_edge::Sink;
-use aseba_vm::{Machine, Tick};
-use aseba_words::Mem;
-
 use crate::early::{Program, Variable};
 use crate::lines::{Moment, end_line, notice_line, var_line, words_line};
 use crate::node;
 use crate::text::Text;
+use aseba_edge::Sink;
+use aseba_vm::{Machine, Tick};
+use aseba_words::Mem;
+use std::alloc::Global;
 
 /// Why a run wasn't written whole.
 #[derive(Clone, Copy, Debug, PartialEq, Eq)]
@@ -84,7 +82,10 @@ fn tick<S: Sink>(
     let cells = u64::from(node::NAMED_CELLS) + program.variables.len() as u64;
     let effects = moment.effects + effects_of(cells, answer);
     if let Tick::Sent(notice) = answer {
-        let now = Moment { ticks: moment.ticks, effects };
+        let now = Moment {
+            ticks: moment.ticks,
+            effects,
+        };
         let line = notice_line(alloc, now, notice, machine.cells())?;
         put_text(out, &line)?;
     }
@@ -187,12 +188,23 @@ fn put_run<S: Sink>(
     ensures count { Counts (is_write_fault result) (S.faults out.old) (S.faults out.new) }
 {
     let end = run_ticks(alloc, &mut machine, program, ticks, out)?;
-    put_ending(alloc, program.variables.as_slice(), machine.cells(), end, out)
+    put_ending(
+        alloc,
+        program.variables.as_slice(),
+        machine.cells(),
+        end,
+        out,
+    )
 }
 
 /// Runs a program's words on the default node for so many ticks, and writes the words and what the
 /// run tells, line by line. Where it isn't written whole, what was written begins it.
-pub fn simulate<S: Sink>(alloc: Global, program: &Program, ticks: u32, out: &mut S) -> Result<(), SimEnd>
+pub fn simulate<S: Sink>(
+    alloc: Global,
+    program: &Program,
+    ticks: u32,
+    out: &mut S,
+) -> Result<(), SimEnd>
     requires { length program.now.words.items ≤ 2048 }
     ensures whole { OnOk result (Took (S.taken out.old) (sim_text program.now.words.items program.now.variables.items ticks) (S.taken out.new)) }
     ensures part { OnErr result (TookFirst (S.taken out.old) (sim_text program.now.words.items program.now.variables.items ticks) (S.taken out.new)) }

@@ -4,15 +4,13 @@ ghost use Rattle.std.specs.Prelude.{◌≡◌, ℕ, List, Option, option_map};
 ghost use Rattle.aseba_edge.specs.Counts.{Counts};
 ghost use Rattle.aseba_tools.specs.Ended.{Cause, IsOfNoFile, IsOfBigFile, IsOfText, Output, is_read_fault, is_write_fault};
 
-use std::alloc::Global;
-
-use aseba_edge::{FileAnswer, Files, Sink};
-use aseba_words::Name;
-
 use crate::early::{NotCompiled, compile};
 use crate::refusal::Refusal;
 use crate::sim::{SimEnd, simulate};
 use crate::status::Status;
+use aseba_edge::{FileAnswer, Files, Sink};
+use aseba_words::Name;
+use std::alloc::Global;
 
 /// The greatest number of bytes that a source may have.
 const MOST_SOURCE: u64 = 1_048_576;

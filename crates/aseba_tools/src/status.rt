@@ -1,9 +1,8 @@
 ghost use Rattle.std.specs.Prelude.{◌≡◌};
 ghost use Rattle.aseba_tools.specs.StatusText.{number_of};
 
-use aseba_words::Name;
-
 use crate::refusal::Refusal;
+use aseba_words::Name;
 
 /// How a call of a tool ended.
 #[derive(Debug, Drop)]

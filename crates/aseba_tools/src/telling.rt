@@ -4,11 +4,10 @@ ghost use Rattle.aseba_edge.specs.Sink.{Took, TookFirst};
 ghost use Rattle.aseba_tools.specs.Ended.{Told};
 ghost use Rattle.aseba_tools.specs.StatusText.{message_of};
 
-use aseba_edge::{PutFault, Sink};
-use itoa::Buffer;
-
 use crate::refusal::Refusal;
 use crate::status::Status;
+use aseba_edge::{PutFault, Sink};
+use itoa::Buffer;
 
 /// A message in three pieces, so that it is told without taking memory.
 #[derive(Clone, Copy)]
@@ -37,12 +36,24 @@ fn message_about<'a>(status: &'a Status, digits: &'a mut Buffer) -> Message<'a>
         Status::Absent { file } => named(b"aseba: no file ", file.as_bytes(), b"\n"),
         Status::ReadFault => named(b"aseba: read failed", b"", b"\n"),
         Status::Refused(Refusal::NotBuilt) => named(b"aseba: refused ", b"NotBuilt", b"\n"),
-        Status::BadProject { line } => named(b"aseba: project line ", digits.format(*line).as_bytes(), b"\n"),
-        Status::BadScript { line } => named(b"aseba: script line ", digits.format(*line).as_bytes(), b"\n"),
+        Status::BadProject { line } => named(
+            b"aseba: project line ",
+            digits.format(*line).as_bytes(),
+            b"\n",
+        ),
+        Status::BadScript { line } => named(
+            b"aseba: script line ",
+            digits.format(*line).as_bytes(),
+            b"\n",
+        ),
         Status::WriteFault => named(b"aseba: write failed", b"", b"\n"),
         Status::Memory => named(b"aseba: out of memory", b"", b"\n"),
         Status::TooBig { file } => named(b"aseba: too big ", file.as_bytes(), b"\n"),
-        Status::BadFrame { place } => named(b"aseba: bad frame at ", digits.format(*place).as_bytes(), b"\n"),
+        Status::BadFrame { place } => named(
+            b"aseba: bad frame at ",
+            digits.format(*place).as_bytes(),
+            b"\n",
+        ),
         Status::NoNode { name } => named(b"aseba: no node ", name.as_bytes(), b"\n"),
         Status::DialFault => named(b"aseba: no connection", b"", b"\n"),
         Status::LongStream => named(b"aseba: stream too long", b"", b"\n"),

@@ -2,11 +2,10 @@ ghost use Rattle.std.specs.Prelude.{◌≡◌, ◌<◌, [], ◌++◌, false, cod
 ghost use Rattle.std.specs.Fmt.{signed_decimal, digit_glyph};
 ghost use Rattle.aseba_tree.specs.Line.{blank_cells, word_text};
 
-use std::alloc::Global;
-use std::marker::Model;
-
 use aseba_words::Mem;
 use itoa::Buffer;
+use std::alloc::Global;
+use std::marker::Model;
 
 /// A text under construction.
 #[derive(Drop)]

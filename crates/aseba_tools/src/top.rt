@@ -4,14 +4,12 @@ ghost use Rattle.aseba_tools.specs.Command.{IsSim, IsNoSim};
 ghost use Rattle.aseba_tools.specs.Ended.{Cause, Output, Told, is_read_fault, is_write_fault};
 ghost use Rattle.aseba_tools.specs.StatusText.{message_of};
 
-use std::alloc::Global;
-
-use aseba_edge::{Clock, Dialer, Files, Sink};
-
 use crate::command::sim_command;
 use crate::source::sim;
 use crate::status::Status;
 use crate::telling::tell;
+use aseba_edge::{Clock, Dialer, Files, Sink};
+use std::alloc::Global;
 
 /// How a call ended, and the link that it opened, as it is at the end.
 #[derive(Debug, Drop)]

@@ -1,17 +1,16 @@
 ghost use Rattle.std.specs.Prelude.{◌≤◌, ◌<◌, length, vec_len, IfOk, OnOk};
 
-use std::alloc::Global;
-
-use aseba_words::{Binary, Name};
-use indexmap::IndexMap;
-
 use crate::early::program::{NotCompiled, Program, Variable};
 use crate::early::scanner::{Lexeme, Sign, next};
 use crate::node;
+use aseba_words::{Binary, Name};
+use indexmap::IndexMap;
+use std::alloc::Global;
 
 const KEYWORDS: [&[u8]; 22] = [
-    b"var", b"onevent", b"sub", b"if", b"then", b"elseif", b"else", b"end", b"when", b"do", b"while",
-    b"for", b"in", b"step", b"emit", b"callsub", b"call", b"return", b"and", b"or", b"not", b"abs",
+    b"var", b"onevent", b"sub", b"if", b"then", b"elseif", b"else", b"end", b"when", b"do",
+    b"while", b"for", b"in", b"step", b"emit", b"callsub", b"call", b"return", b"and", b"or",
+    b"not", b"abs",
 ];
 
 /// Compiles a text in one pass, each statement as it is read.
@@ -23,16 +22,23 @@ pub fn compile(alloc: Global, text: &[u8]) -> Result<Program, NotCompiled>
     compiler.assignments(statements)?;
     compiler.push(STOP)?;
     let Compiler {
-        words, variables, ..
+        words,
+        variables,
+        ..
     } = compiler;
     Ok(Program { words, variables })
 }
 
 const STOP: u16 = 0x0000;
+
 const SMALL_NUMBER: u16 = 0x1000;
+
 const LARGE_NUMBER: u16 = 0x2000;
+
 const LOAD: u16 = 0x3000;
+
 const STORE: u16 = 0x4000;
+
 const BINARY: u16 = 0x8000;
 
 /// The number of the event that begins the init code.
@@ -52,7 +58,10 @@ impl Compiler {
     fn new(alloc: Global) -> Result<Compiler, NotCompiled> {
         let words = Vec::from_slice(alloc, &[3, INIT_EVENT, 3])?;
         let mut addresses = IndexMap::new(alloc);
-        for (name, address) in [(b"_id".as_slice(), node::ID), (b"event.source".as_slice(), node::SOURCE)] {
+        for (name, address) in [
+            (b"_id".as_slice(), node::ID),
+            (b"event.source".as_slice(), node::SOURCE),
+        ] {
             addresses.insert(Vec::from_slice(alloc, name)?, address)?;
         }
         Ok(Compiler {
@@ -103,7 +112,8 @@ impl Compiler {
             address,
         };
         self.variables.push(variable)?;
-        self.addresses.insert(Vec::from_slice(alloc, name)?, address)?;
+        self.addresses
+            .insert(Vec::from_slice(alloc, name)?, address)?;
         Ok(rest)
     }
 
@@ -126,7 +136,11 @@ impl Compiler {
         Ok(())
     }
 
-    fn assignment<'a>(&mut self, target: Lexeme<'_>, text: &'a [u8]) -> Result<&'a [u8], NotCompiled>
+    fn assignment<'a>(
+        &mut self,
+        target: Lexeme<'_>,
+        text: &'a [u8],
+    ) -> Result<&'a [u8], NotCompiled>
         ensures { IfOk result (λ rest. length rest.now ≤ length text.now) }
     {
         let Lexeme::Word(name) = target else {
@@ -183,13 +197,18 @@ impl Compiler {
     }
 
     fn address_of(&self, name: &[u8]) -> Result<u16, NotCompiled> {
-        self.addresses.get(name).copied().ok_or(NotCompiled::Refused)
+        self.addresses
+            .get(name)
+            .copied()
+            .ok_or(NotCompiled::Refused)
     }
 }
 
 /// A letter or `_` first, and no keyword.
 fn is_name(word: &[u8]) -> bool {
-    let begins = word.first().is_some_and(|byte| byte.is_ascii_alphabetic() || *byte == b'_');
+    let begins = word
+        .first()
+        .is_some_and(|byte| byte.is_ascii_alphabetic() || *byte == b'_');
     begins && !KEYWORDS.iter().any(|keyword| *keyword == word)
 }
 

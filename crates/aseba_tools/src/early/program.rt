@@ -1,6 +1,5 @@
-use std::alloc::{AllocError, AllocFailed};
-
 use aseba_words::{Mem, Name};
+use std::alloc::{AllocError, AllocFailed};
 
 /// A compiled source.
 #[derive(Drop)]

@@ -1,4 +1,4 @@
-use Rattle.std.proofs.Common.{◌≡◌, subst, sym, ◌∙◌, ap, false}
+use Rattle.std.proofs.Common.{subst, sym, ◌∙◌, ap, false}
 use Rattle.aseba_vm.specs.State.{State, NamesInside}
 use Rattle.aseba_vm.specs.Loaded.{made, loaded, reset_state}
 use Rattle.aseba_tools.proofs.Loading.{names_inside, never_refused, started-is}

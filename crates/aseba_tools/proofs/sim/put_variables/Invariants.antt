@@ -9,5 +9,5 @@ use Rattle.aseba_tools.proofs.sim.put_variables.Given as goal
 abbrev pub invariant-loop-variable : goal.invariant-loop-variable
 invariant-loop-variable g l =
     ((text : List ℕ) × Took (g.S.Sink.taken l.fn.out) text (g.S.Sink.taken l.out)
-      × (text ++ lines_text (var_lines l.cells (map place_of (drop l.variable-index l.variables))) ≡ lines_text (var_lines l.cells (map place_of l.variables))))
+    × (text ++ lines_text (var_lines l.cells (map place_of (drop l.variable-index l.variables))) ≡ lines_text (var_lines l.cells (map place_of l.variables))))
     × (g.S.Sink.faults l.out ≡ g.S.Sink.faults l.fn.out)

@@ -1,4 +1,3 @@
-use Rattle.std.proofs.Common.{is_err}
 use Rattle.aseba_tools.proofs.Writing.{told}
 use Rattle.aseba_tools.proofs.telling.tell.Goals as goal
 

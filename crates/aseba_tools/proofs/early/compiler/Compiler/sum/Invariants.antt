@@ -1,4 +1,4 @@
-use Rattle.std.proofs.Common.{◌≤◌, ◌<◌, length}
+use Rattle.std.proofs.Common.{◌≤◌, length}
 use Rattle.aseba_tools.proofs.early.compiler.Compiler.sum.Given as goal
 
 -- a leaf at least was read

@@ -1,0 +1,29 @@
+-- Worked runs: the words of small programs, computed by the machine's definition to their lines.
+use Rattle.std.specs.Prelude.{◌≡◌, ℕ, List, [], ◌∷◌, pos, codes, refl}
+use Rattle.std.specs.Int.{int_wrap}
+use Rattle.aseba_tree.specs.Code.{Name, Sized, Project}
+use Rattle.aseba_tree.specs.Line.{Line, Event, named, began, killed, sent, told, var, end}
+use Rattle.aseba_tree.specs.Script.{Entry, arrives}
+use Rattle.aseba_tree.specs.Layout.{placed_from}
+use Rattle.aseba_vm.specs.Tick.{ticked}
+use Rattle.aseba_vm.specs.Arrival.{arrived}
+use Rattle.aseba_vm.specs.Control.{hold_written}
+use Rattle.aseba_vm.specs.Loaded.{made, loaded, reset_state}
+use Rattle.aseba_codegen.specs.Table.{Layout, started, table_lines}
+use Rattle.aseba_codegen.specs.Worked.{small_project, one_variable, event_at, ForLoop, SubCall, WhenEdge, KillInExpression}
+
+pub for_loop : ForLoop
+unfolding started ticked arrived hold_written made loaded reset_state int_wrap
+for_loop = refl
+
+pub sub_call : SubCall
+unfolding started ticked arrived hold_written made loaded reset_state int_wrap
+sub_call = refl
+
+pub when_edge : WhenEdge
+unfolding started ticked arrived hold_written made loaded reset_state int_wrap
+when_edge = refl
+
+pub kill_in_expression : KillInExpression
+unfolding started ticked arrived hold_written made loaded reset_state int_wrap
+kill_in_expression = refl
