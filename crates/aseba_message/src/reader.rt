@@ -1,6 +1,7 @@
-ghost use Rattle.std.specs.Prelude.{◌≡◌, ◌<◌, ◌≤◌, [], length, if◌then◌else◌, IfOk, IsTrue};
-ghost use Rattle.aseba_message.specs.Frames.{is_bad, is_frame, length_word, message_of};
-ghost use Rattle.aseba_message.specs.Reader.{answer, fed};
+ghost use Rattle.std.specs.Prelude.{◌≡◌, ◌≤◌, ℕ, List as Items, [], ◌∷◌, ◌++◌, length, if◌then◌else◌, IfOk, IsTrue};
+ghost use Rattle.aseba_message.specs.Frames.{is_frame, message_of};
+ghost use Rattle.aseba_message.specs.Reader.{Held, answer, fed};
+ghost use Rattle.aseba_message.specs.Cut.{StandsAt, frames_of, ended};
 
 use crate::frame::Frame;
 use aseba_words::{List, Mem};
@@ -56,6 +57,16 @@ impl FrameReader {
 
     /// Takes the stream's next byte.
     pub fn feed(&mut self, byte: u8) -> Fed
+        ensures bytes { self.new ≡ fed self.old byte }
+        ensures answer { result ≡ answer self.new }
+        ensures stream { (bytes : Items ℕ) → StandsAt bytes self.old
+            → StandsAt (bytes ++ byte ∷ []) self.new × (frames_of (bytes ++ byte ∷ []) ≡ frames_of bytes ++ ended result self.new) }
+    {
+        self.take_byte(byte)
+    }
+
+    fn take_byte(&mut self, byte: u8) -> Fed
+        ensures held { Held self.old }
         ensures bytes { self.new ≡ fed self.old byte }
         ensures answer { result ≡ answer self.new }
     {
