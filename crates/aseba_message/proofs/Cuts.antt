@@ -41,9 +41,9 @@ message_of-append bytes more h =
     let word = length_word-append bytes more f.0 in
     let room : length_word bytes ≤ length (drop 6 bytes) = omega (arith, length-drop 6 bytes) in
     let payload : take (length_word (bytes ++ more)) (drop 6 (bytes ++ more)) ≡ take (length_word bytes) (drop 6 bytes) =
-        ap (λ n. take n (drop 6 (bytes ++ more))) word
-        ∙ (ap (take (length_word bytes)) (drop-append-le 6 bytes more (omega arith))
-        ∙ take-append-le (length_word bytes) (drop 6 bytes) more room) in
+    ap (λ n. take n (drop 6 (bytes ++ more))) word
+    ∙ (ap (take (length_word bytes)) (drop-append-le 6 bytes more (omega arith))
+    ∙ take-append-le (length_word bytes) (drop 6 bytes) more room) in
     cc
 
 pub frameless : (b : Bool) → (b ≡ true → ⊥) → b ≡ false

@@ -1,12 +1,12 @@
 -- A reader stands where the cut of what it took says.
-use Rattle.std.proofs.Common.{◌≡◌, ℕ, zero, suc, ◌+◌, ◌<◌, ◌≤◌, Bool, true, false, if◌then◌else◌, List, [], ◌∷◌, ◌++◌, length, drop, refl, sym, ap, ◌∙◌, subst, append_assoc, append-nil, length-append, ◌⊎◌, inl, inr, arith}
+use Rattle.std.proofs.Common.{◌≡◌, ℕ, zero, suc, ◌+◌, ◌<◌, ◌≤◌, Bool, true, false, if◌then◌else◌, List, [], ◌∷◌, ◌++◌, length, take, drop, refl, sym, ap, ◌∙◌, subst, append_assoc, append-nil, length-append, ◌⊎◌, inl, inr, arith}
 use Rattle.std.specs.Bool.{MatchBool}
 use Rattle.std.proofs.Math.Seq.{drop-length}
 use Rattle.std.proofs.lemmas.Bool.{cases_lt}
 use Rattle.std.proofs.lemmas.Bool.Decides.{nat_tests}
 use Rattle.aseba_message.specs.Message.{Message}
 use Rattle.aseba_message.specs.Frames.{length_word, is_bad, is_frame, has_frame, frame_len, message_of}
-use Rattle.aseba_message.specs.Reader.{Held, answer, begun, fed}
+use Rattle.aseba_message.specs.Reader.{Held, answer, begun, fed, is_more, also_taken, taken}
 use Rattle.aseba_message.specs.Cut.{behind, frames_of, rest_of, StandsAt, ended}
 use Rattle.aseba_message.specs.declared.reader.Fed.{Fed}
 use Rattle.aseba_message.specs.declared.reader.Fed.TheVariants.{More, Whole, TooLong}
@@ -15,13 +15,13 @@ use Rattle.aseba_message.proofs.Cuts.{cut, joined, cut-append, cut-next, cut-non
 bad-tells : (bytes : List ℕ) → is_bad bytes ≡ true → (2 ≤ length bytes) × (1024 < length_word bytes)
 bad-tells bytes h = (grind (arith, nat_tests), grind (arith, nat_tests))
 
-not_bad-tells : (bytes : List ℕ) → is_bad bytes ≡ false → 2 ≤ length bytes → length_word bytes ≤ 1024
+pub not_bad-tells : (bytes : List ℕ) → is_bad bytes ≡ false → 2 ≤ length bytes → length_word bytes ≤ 1024
 not_bad-tells bytes h two = grind (arith, nat_tests)
 
 frame-tells : (bytes : List ℕ) → is_frame bytes ≡ true → length bytes ≡ 6 + length_word bytes
 frame-tells bytes h = grind (arith, nat_tests)
 
-not_frame-tells : (bytes : List ℕ) → is_frame bytes ≡ false → 2 ≤ length bytes → length bytes ≡ 6 + length_word bytes → ⊥
+pub not_frame-tells : (bytes : List ℕ) → is_frame bytes ≡ false → 2 ≤ length bytes → length bytes ≡ 6 + length_word bytes → ⊥
 not_frame-tells bytes h two e = grind (arith, nat_tests)
 
 bad-front : (bytes more : List ℕ) → is_bad bytes ≡ true → cut (bytes ++ more) ≡ ([], bytes ++ more)
@@ -95,17 +95,19 @@ stays : (bytes held : List ℕ) (byte : ℕ) → is_bad held ≡ true → Stands
 stays bytes held byte e stands =
     let rest : rest_of bytes ++ byte ∷ [] ≡ held ++ (stands.0 ++ byte ∷ []) = ap (λ r. r ++ byte ∷ []) stands.1 ∙ append_assoc held stands.0 (byte ∷ []) in
     let same : cut (bytes ++ byte ∷ []) ≡ (frames_of bytes ++ [], held ++ (stands.0 ++ byte ∷ [])) =
-        cut-append bytes (byte ∷ [])
-        ∙ ap (λ c. (frames_of bytes ++ c.0, c.1)) (ap cut rest ∙ bad-front held (stands.0 ++ byte ∷ []) e) in
-    (subst (λ b. Stands b (bytes ++ byte ∷ []) held) (sym e) (stands.0 ++ byte ∷ [], ap (λ c. c.1) same),
-    ap (λ c. c.0) same ∙ ap (λ b. frames_of bytes ++ ends b held) (sym e))
+    cut-append bytes (byte ∷ [])
+    ∙ ap (λ c. (frames_of bytes ++ c.0, c.1)) (ap cut rest ∙ bad-front held (stands.0 ++ byte ∷ []) e) in (
+      subst (λ b. Stands b (bytes ++ byte ∷ []) held) (sym e) (stands.0 ++ byte ∷ [], ap (λ c. c.1) same),
+      ap (λ c. c.0) same ∙ ap (λ b. frames_of bytes ++ ends b held) (sym e),
+    )
 
 moves : (bytes next : List ℕ) (byte : ℕ) → Held next → cut (bytes ++ byte ∷ []) ≡ (frames_of bytes ++ (cut next).0, (cut next).1) → (bad : Bool) → is_bad next ≡ bad → Step bytes next byte
 moves bytes next byte h same true e =
     let alone : cut next ≡ ([], next ++ []) = ap cut (sym (append-nil next)) ∙ bad-front next [] e in
-    let all = same ∙ ap (λ c. (frames_of bytes ++ c.0, c.1)) alone in
-    (subst (λ b. Stands b (bytes ++ byte ∷ []) next) (sym e) ([], ap (λ c. c.1) all),
-    ap (λ c. c.0) all ∙ ap (λ b. frames_of bytes ++ ends b next) (sym e))
+    let all = same ∙ ap (λ c. (frames_of bytes ++ c.0, c.1)) alone in (
+      subst (λ b. Stands b (bytes ++ byte ∷ []) next) (sym e) ([], ap (λ c. c.1) all),
+      ap (λ c. c.0) all ∙ ap (λ b. frames_of bytes ++ ends b next) (sym e),
+    )
 moves bytes next byte h same false e =
     let all = same ∙ ap (λ c. (frames_of bytes ++ c.0, c.1)) (good-cut next h e) in
     (subst (λ b. Stands b (bytes ++ byte ∷ []) next) (sym e) (ap (λ c. c.1) all), ap (λ c. c.0) all)
@@ -121,3 +123,39 @@ step-tested bytes held byte h false e stands =
 -- a byte takes a reader on
 pub step : (bytes held : List ℕ) (byte : ℕ) → Held held → StandsAt bytes held → Step bytes (fed held byte) byte
 step bytes held byte h stands = step-tested bytes held byte h (is_bad held) refl stands
+
+-- so does a piece, up to where it is taken
+abbrev pub Taking : List ℕ → List ℕ → ℕ × Fed × List ℕ → Type 0
+Taking bytes piece r = StandsAt (bytes ++ take r.0 piece) r.2 × (frames_of (bytes ++ take r.0 piece) ≡ frames_of bytes ++ ended r.1 r.2)
+
+on : (bytes held : List ℕ) (byte : ℕ) (piece : List ℕ) → Held held → StandsAt bytes held
+    → ((more : List ℕ) (next : List ℕ) → Held next → StandsAt more next → Taking more piece (taken next piece))
+    → (f : Fed) → answer (fed held byte) ≡ f
+    → Taking bytes (byte ∷ piece) (if is_more f then also_taken 1 (taken (fed held byte) piece) else (1, f, fed held byte))
+on bytes held byte piece h stands ih More e =
+    let first = step bytes held byte h stands in
+    let r = taken (fed held byte) piece in
+    let next = ih (bytes ++ byte ∷ []) (fed held byte) (held-fed held byte h) first.0 in
+    let count : 1 + r.0 ≡ suc r.0 = omega arith in
+    let whole : (bytes ++ byte ∷ []) ++ take r.0 piece ≡ bytes ++ take (1 + r.0) (byte ∷ piece) =
+    append_assoc bytes (byte ∷ []) (take r.0 piece) ∙ ap (λ n. bytes ++ take n (byte ∷ piece)) (sym count) in
+    let none : frames_of (bytes ++ byte ∷ []) ≡ frames_of bytes =
+    first.1 ∙ (ap (λ f. frames_of bytes ++ ended f (fed held byte)) e ∙ append-nil (frames_of bytes)) in (
+      subst (λ b. StandsAt b r.2) whole next.0,
+      ap frames_of (sym whole) ∙ (next.1 ∙ ap (λ fs. fs ++ ended r.1 r.2) none),
+    )
+on bytes held byte piece h stands ih Whole e =
+    let first = step bytes held byte h stands in
+    (first.0, first.1 ∙ ap (λ f. frames_of bytes ++ ended f (fed held byte)) e)
+on bytes held byte piece h stands ih (TooLong len) e =
+    let first = step bytes held byte h stands in
+    (first.0, first.1 ∙ ap (λ f. frames_of bytes ++ ended f (fed held byte)) e)
+
+pub taking-none : (bytes held : List ℕ) → StandsAt bytes held → Taking bytes [] (0, More, held)
+taking-none bytes held stands =
+    (subst (λ b. StandsAt b held) (sym (append-nil bytes)) stands, ap frames_of (append-nil bytes) ∙ sym (append-nil (frames_of bytes)))
+
+pub taking : (bytes held piece : List ℕ) → Held held → StandsAt bytes held → Taking bytes piece (taken held piece)
+taking bytes held [] h stands = taking-none bytes held stands
+taking bytes held (byte ∷ piece) h stands =
+    on bytes held byte piece h stands (λ more next k s. taking more next piece k s) (answer (fed held byte)) refl

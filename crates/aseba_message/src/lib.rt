@@ -8,4 +8,4 @@ mod reader;
 
 pub use encoding::encode;
 pub use frame::Frame;
-pub use reader::{Fed, FrameReader};
+pub use reader::{Fed, FrameReader, Taken};

@@ -9,5 +9,5 @@ returns-clause-stream c = λ bytes stands.
     let taken = c.take_byte.ensures in
     let new = c.take_byte.new.self in
     let r : Step bytes new c.args.byte =
-        subst (λ held. Step bytes held c.args.byte) (sym taken.bytes) (step bytes c.args.self.now c.args.byte taken.held stands) in
+    subst (λ held. Step bytes held c.args.byte) (sym taken.bytes) (step bytes c.args.self.now c.args.byte taken.held stands) in
     (r.0, r.1 ∙ ap (λ fed. frames_of bytes ++ ended fed new) (sym taken.answer))
