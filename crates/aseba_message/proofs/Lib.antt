@@ -1,3 +1,4 @@
 pub mod Cuts
 pub mod Standing
 pub mod Pieces
+pub mod OneCut

@@ -1,6 +1,6 @@
 -- A stream, cut into its frames.
 use Rattle.std.specs.Prelude.{◌≡◌, ℕ, zero, suc, ◌+◌, ◌<◌, ◌≤◌, ◌^◌, Bool, true, false, if◌then◌else◌, List, [], ◌∷◌, ◌++◌, length, drop, IsTrue, IsFalse}
-use Rattle.std.specs.List.{All, flat_map}
+use Rattle.std.specs.List.{AllByRecursion, flat_map}
 use Rattle.std.specs.Bool.{MatchBool}
 use Rattle.aseba_message.specs.Message.{Message}
 use Rattle.aseba_message.specs.Frames.{spelling, is_bad, has_frame, frame_len, message_of}
@@ -32,7 +32,7 @@ IsMessage m = (length m.payload ≤ 1024) × (m.source < 2 ^ 16) × (m.kind < 2 
 -- the stream is these frames, one after the other, and then what isn't a whole frame
 pub record IsCut (bytes : List ℕ) (frames : List Message) (rest : List ℕ) : Type 0 where
   pub whole : bytes ≡ flat_map spelling frames ++ rest
-  pub each : All IsMessage frames
+  pub each : AllByRecursion IsMessage frames
   pub last : has_frame rest ≡ false
 
 -- A reader that has taken all of a stream holds what remains of it, and at a bad length only that. A frame that has just ended is still held.

@@ -4,8 +4,10 @@
 
 mod encoding;
 mod frame;
+mod law;
 mod reader;
 
 pub use encoding::encode;
 pub use frame::Frame;
+pub use law::one_cut;
 pub use reader::{Fed, FrameReader, Taken};
