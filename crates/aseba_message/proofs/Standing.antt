@@ -7,7 +7,7 @@ use Rattle.std.proofs.lemmas.Bool.Decides.{nat_tests}
 use Rattle.aseba_message.specs.Message.{Message}
 use Rattle.aseba_message.specs.Frames.{length_word, is_bad, is_frame, has_frame, frame_len, message_of}
 use Rattle.aseba_message.specs.Reader.{Held, answer, begun, fed, is_more, also_taken, taken}
-use Rattle.aseba_message.specs.Cut.{behind, frames_of, rest_of, StandsAt, ended}
+use Rattle.aseba_message.specs.Cut.{behind, frames_of, rest_of, StandsAt, ended, is_too_long}
 use Rattle.aseba_message.specs.declared.reader.Fed.{Fed}
 use Rattle.aseba_message.specs.declared.reader.Fed.TheVariants.{More, Whole, TooLong}
 use Rattle.aseba_message.proofs.Cuts.{cut, joined, cut-append, cut-next, cut-none, frameless, frame-fits, frame-from_fits, length_word-append}
@@ -159,3 +159,27 @@ pub taking : (bytes held piece : List ℕ) → Held held → StandsAt bytes held
 taking bytes held [] h stands = taking-none bytes held stands
 taking bytes held (byte ∷ piece) h stands =
     on bytes held byte piece h stands (λ more next k s. taking more next piece k s) (answer (fed held byte)) refl
+
+bad-append : (held more : List ℕ) → is_bad held ≡ true → is_bad (held ++ more) ≡ true
+bad-append held more h =
+    let f = bad-tells held h in
+    let word = length_word-append held more f.0 in
+    let len = length-append held more in
+    grind (arith, nat_tests)
+
+begun-good : (held : List ℕ) → is_bad held ≡ false → (whole : Bool) → is_bad (if whole then [] else held) ≡ false
+begun-good held h true = refl
+begun-good held h false = h
+
+rest-bad : (bytes held : List ℕ) (bad : Bool) → is_bad held ≡ bad → Stands bad bytes held → is_bad (rest_of bytes) ≡ bad
+rest-bad bytes held true e stands = ap is_bad stands.1 ∙ bad-append held stands.0 e
+rest-bad bytes held false e stands = ap is_bad stands ∙ begun-good held e (is_frame held)
+
+too_long : (held : List ℕ) (bad whole : Bool) → bad ≡ is_too_long (if bad then TooLong (length_word held) else (if whole then Whole else More))
+too_long held true whole = refl
+too_long held false true = refl
+too_long held false false = refl
+
+-- a reader that stands there says that the length is too long exactly where what remains begins with one
+pub stands-bad : (bytes held : List ℕ) → StandsAt bytes held → is_bad (rest_of bytes) ≡ is_too_long (answer held)
+stands-bad bytes held stands = rest-bad bytes held (is_bad held) refl stands ∙ too_long held (is_bad held) (is_frame held)

@@ -44,3 +44,8 @@ abbrev pub ended : Fed → List ℕ → List Message
 ended More held = []
 ended Whole held = message_of held ∷ []
 ended (TooLong len) held = []
+
+abbrev pub is_too_long : Fed → Bool
+is_too_long More = false
+is_too_long Whole = false
+is_too_long (TooLong len) = true

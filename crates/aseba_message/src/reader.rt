@@ -1,7 +1,7 @@
-ghost use Rattle.std.specs.Prelude.{◌≡◌, ◌+◌, ◌≤◌, ℕ, List as Items, [], ◌∷◌, ◌++◌, ◌-◌, min, take, length, if◌then◌else◌, IfOk, IsTrue};
-ghost use Rattle.aseba_message.specs.Frames.{is_frame, message_of};
+ghost use Rattle.std.specs.Prelude.{◌≡◌, ◌+◌, ◌<◌, ◌≤◌, ℕ, List as Items, [], ◌∷◌, ◌++◌, ◌-◌, min, take, length, if◌then◌else◌, IfOk, IsTrue};
+ghost use Rattle.aseba_message.specs.Frames.{is_bad, is_frame, message_of};
 ghost use Rattle.aseba_message.specs.Reader.{Held, answer, fed, is_more, taken, wanted};
-ghost use Rattle.aseba_message.specs.Cut.{StandsAt, frames_of, ended};
+ghost use Rattle.aseba_message.specs.Cut.{StandsAt, frames_of, rest_of, ended, is_too_long};
 
 use crate::frame::Frame;
 use aseba_words::{List, Mem};
@@ -68,7 +68,8 @@ impl Model for FrameReader {
 impl FrameReader {
     /// A reader at the beginning of a stream.
     pub fn new() -> FrameReader
-        ensures { result ≡ [] }
+        ensures bytes { result ≡ [] }
+        ensures stream { StandsAt [] result }
     {
         FrameReader {
             buffer: [0; LONGEST],
@@ -82,6 +83,7 @@ impl FrameReader {
         ensures answer { result ≡ answer self.new }
         ensures stream { (bytes : Items ℕ) → StandsAt bytes self.old
             → StandsAt (bytes ++ byte ∷ []) self.new × (frames_of (bytes ++ byte ∷ []) ≡ frames_of bytes ++ ended result self.new) }
+        ensures bad { (bytes : Items ℕ) → StandsAt bytes self.old → is_bad (rest_of (bytes ++ byte ∷ [])) ≡ is_too_long result }
     {
         self.take_byte(byte)
     }
@@ -108,6 +110,8 @@ impl FrameReader {
         ensures stream { (bytes : Items ℕ) → StandsAt bytes self.old
             → StandsAt (bytes ++ take result.count piece.now) self.new
             × (frames_of (bytes ++ take result.count piece.now) ≡ frames_of bytes ++ ended result.fed self.new) }
+        ensures bad { (bytes : Items ℕ) → StandsAt bytes self.old → 0 < length piece.now
+            → is_bad (rest_of (bytes ++ take result.count piece.now)) ≡ is_too_long result.fed }
     {
         match piece.split_first() {
             Some((first, rest)) => self.take_piece(*first, rest),
@@ -123,6 +127,7 @@ impl FrameReader {
     fn take_piece(&mut self, first: u8, rest: &[u8]) -> Taken
         ensures held { Held self.old }
         ensures taken { (result.count, result.fed, self.new) ≡ taken self.old (first ∷ rest.now) }
+        ensures answer { result.fed ≡ answer self.new }
     {
         let fed = self.take_byte(first);
         if !fed.is_more() {

@@ -1,6 +1,7 @@
-use Rattle.std.proofs.Common.{◌≡◌, ◌∷◌, subst, sym, arith}
+use Rattle.std.proofs.Common.{◌≡◌, ◌∷◌, ◌++◌, take, subst, sym, ap, ◌∙◌, arith}
 use Rattle.std.proofs.lemmas.Grind.{common_steps}
-use Rattle.aseba_message.proofs.Standing.{Taking, taking}
+use Rattle.aseba_message.specs.Cut.{is_too_long}
+use Rattle.aseba_message.proofs.Standing.{Taking, taking, stands-bad}
 use Rattle.aseba_message.proofs.reader.FrameReader.feed_piece.Goals as goal
 
 pub returns-in-Some-clause-stream : goal.returns-in-Some-clause-stream
@@ -14,3 +15,9 @@ returns-in-Some-clause-stream c = λ bytes stands.
     let s : Taking bytes (first ∷ rest) (result.count, result.fed, new) =
     subst (λ end. Taking bytes (first ∷ rest) end) (sym c.take_piece.ensures.taken) r in
     subst (λ xs. Taking bytes xs (result.count, result.fed, new)) (sym piece) s
+
+pub returns-in-Some-clause-bad : goal.returns-in-Some-clause-bad
+returns-in-Some-clause-bad c = λ bytes stands some.
+    let result = c.take_piece.result in
+    stands-bad (bytes ++ take result.count c.args.piece.now) c.take_piece.new.self (returns-in-Some-clause-stream c bytes stands).0
+    ∙ ap is_too_long (sym c.take_piece.ensures.answer)
