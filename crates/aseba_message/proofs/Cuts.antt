@@ -1,12 +1,12 @@
 -- How the cut of a stream changes when more of it comes.
-use Rattle.std.proofs.Common.{◌≡◌, ℕ, zero, suc, ◌+◌, ◌-◌, ◌<◌, ◌≤◌, Bool, true, false, ◌&&◌, not, nat_le, nat_lt, if◌then◌else◌, List, [], ◌∷◌, ◌++◌, length, take, drop, refl, sym, ap, ◌∙◌, subst, append_assoc, append-nil, length-append, length-drop, arith}
+use Rattle.std.proofs.Common.{◌≡◌, ℕ, zero, suc, ◌+◌, ◌<◌, ◌≤◌, Bool, true, false, if◌then◌else◌, List, [], ◌++◌, length, take, drop, refl, sym, ap, ◌∙◌, length-append, length-drop, arith}
 use Rattle.std.proofs.lemmas.Bool.Decides.{nat_tests}
 use Rattle.std.proofs.lemmas.List.{take-append-le, drop-append-le}
 use Rattle.byteorder.specs.Endian.{little_number}
 use Rattle.byteorder.specs.Numbers.{little_from-append}
 use Rattle.aseba_message.specs.Message.{Message}
-use Rattle.aseba_message.specs.Frames.{length_word, has_frame, frame_len, message_of, is_bad, has_length}
-use Rattle.aseba_message.specs.Cut.{behind, cut_up_to, frames_of, rest_of}
+use Rattle.aseba_message.specs.Frames.{length_word, has_frame, frame_len, message_of}
+use Rattle.aseba_message.specs.Cut.{behind, cut_up_to}
 
 -- the facts that a frame at the front tells
 pub frame-fits : (bytes : List ℕ) → has_frame bytes ≡ true → (2 ≤ length bytes) × (length_word bytes ≤ 1024) × (6 + length_word bytes ≤ length bytes)

@@ -1,10 +1,10 @@
 -- To take a piece at once is to take its bytes one by one.
-use Rattle.std.proofs.Common.{◌≡◌, ℕ, zero, suc, ◌+◌, ◌-◌, ◌<◌, ◌≤◌, min, Bool, true, false, if◌then◌else◌, List, [], ◌∷◌, ◌++◌, length, take, drop, refl, sym, ap, ◌∙◌, subst, append_assoc, append-nil, length-append, length-drop, length-take-le, zero-add, ◌⊎◌, inl, inr, arith}
-use Rattle.std.proofs.Math.Seq.{drop-length}
+use Rattle.std.proofs.Common.{◌≡◌, ℕ, zero, suc, ◌+◌, ◌-◌, ◌<◌, ◌≤◌, min, Bool, true, false, if◌then◌else◌, List, [], ◌∷◌, ◌++◌, length, take, drop, get_or, refl, sym, ap, ◌∙◌, subst, append_assoc, append-nil, length-append, length-drop, length-take-le, zero-add, ◌⊎◌, inl, inr, arith}
+use Rattle.std.proofs.Math.Seq.{drop-length, take-length}
 use Rattle.std.proofs.lemmas.Bool.{cases_lt}
 use Rattle.std.proofs.lemmas.Bool.Decides.{nat_tests}
-use Rattle.aseba_message.specs.Frames.{length_word, is_bad, is_frame, frame_len}
-use Rattle.aseba_message.specs.Reader.{Held, answer, begun, fed, is_more, also_taken, taken, wanted}
+use Rattle.aseba_message.specs.Frames.{length_word, is_bad, is_frame}
+use Rattle.aseba_message.specs.Reader.{answer, begun, fed, is_more, also_taken, taken, wanted}
 use Rattle.aseba_message.specs.declared.reader.Fed.{Fed}
 use Rattle.aseba_message.specs.declared.reader.Fed.TheVariants.{More, Whole, TooLong}
 use Rattle.aseba_message.proofs.Cuts.{length_word-append}
@@ -183,18 +183,27 @@ goes_on held byte piece first e h =
 
 pub second-ends : (held : List ℕ) (byte : ℕ) (piece first : List ℕ) (n : ℕ) (next : List ℕ) → first ≡ fed held byte → is_more (answer first) ≡ true
     → n ≡ min (wanted first - length first) (length piece) → length first ≤ wanted first → next ≡ first ++ take n piece → is_more (answer next) ≡ false
-    → (1 + n, answer next, next) ≡ taken held (byte ∷ piece)
-second-ends held byte piece first n next e h f room g k =
-    sym (goes_on held byte piece first e h
+    → (said : Fed) → said ≡ answer next → (1 + n, said, next) ≡ taken held (byte ∷ piece)
+second-ends held byte piece first n next e h f room g k said told =
+    ap (λ a. (1 + n, a, next)) told
+    ∙ sym (goes_on held byte piece first e h
     ∙ (ap (also_taken 1) (once first piece n next (is_more-tells (answer first) h) f room g)
     ∙ ap (λ b. also_taken 1 (if b then also_taken n (taken next (drop n piece)) else (n, answer next, next))) k))
 
 pub third-ends : (held : List ℕ) (byte : ℕ) (piece first : List ℕ) (n m : ℕ) (next last : List ℕ) → first ≡ fed held byte → is_more (answer first) ≡ true
     → n ≡ min (wanted first - length first) (length piece) → length first ≤ wanted first → next ≡ first ++ take n piece → is_more (answer next) ≡ true
     → m ≡ min (wanted next - length next) (length (drop n piece)) → length next ≤ wanted next → last ≡ next ++ take m (drop n piece)
-    → (1 + n + m, answer last, last) ≡ taken held (byte ∷ piece)
-third-ends held byte piece first n m next last e h f room g k f' room' g' =
+    → (said : Fed) → said ≡ answer last → (1 + n + m, said, last) ≡ taken held (byte ∷ piece)
+third-ends held byte piece first n m next last e h f room g k f' room' g' said told =
     let count : 1 + n + m ≡ 1 + (n + m) = omega arith in
-    ap (λ c. (c, answer last, last)) count
+    ap (λ a. (1 + n + m, a, last)) told
+    ∙ ap (λ c. (c, answer last, last)) count
     ∙ sym (goes_on held byte piece first e h
     ∙ ap (also_taken 1) (twice first piece n m next last (is_more-tells (answer first) h) f room g (is_more-tells (answer next) k) f' room' g'))
+
+-- a piece's first byte and the others
+pub split-first : (piece : List ℕ) → 0 < length piece → piece ≡ get_or piece 0 0 ∷ take (length piece - 1) (drop 1 piece)
+split-first [] h = absurd (omega arith)
+split-first (byte ∷ piece) h =
+    let len : length (byte ∷ piece) - 1 ≡ length piece = omega arith in
+    ap (λ xs. byte ∷ xs) (sym (ap (λ n. take n piece) len ∙ take-length piece))

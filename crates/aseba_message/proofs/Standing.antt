@@ -1,5 +1,5 @@
 -- A reader stands where the cut of what it took says.
-use Rattle.std.proofs.Common.{◌≡◌, ℕ, zero, suc, ◌+◌, ◌<◌, ◌≤◌, Bool, true, false, if◌then◌else◌, List, [], ◌∷◌, ◌++◌, length, take, drop, refl, sym, ap, ◌∙◌, subst, append_assoc, append-nil, length-append, ◌⊎◌, inl, inr, arith}
+use Rattle.std.proofs.Common.{◌≡◌, ℕ, suc, ◌+◌, ◌<◌, ◌≤◌, Bool, true, false, if◌then◌else◌, List, [], ◌∷◌, ◌++◌, length, take, drop, refl, sym, ap, ◌∙◌, subst, append_assoc, append-nil, length-append, ◌⊎◌, inl, inr, arith}
 use Rattle.std.specs.Bool.{MatchBool}
 use Rattle.std.proofs.Math.Seq.{drop-length}
 use Rattle.std.proofs.lemmas.Bool.{cases_lt}
@@ -10,7 +10,7 @@ use Rattle.aseba_message.specs.Reader.{Held, answer, begun, fed, is_more, also_t
 use Rattle.aseba_message.specs.Cut.{behind, frames_of, rest_of, StandsAt, ended, is_too_long}
 use Rattle.aseba_message.specs.declared.reader.Fed.{Fed}
 use Rattle.aseba_message.specs.declared.reader.Fed.TheVariants.{More, Whole, TooLong}
-use Rattle.aseba_message.proofs.Cuts.{cut, joined, cut-append, cut-next, cut-none, frameless, frame-fits, frame-from_fits, length_word-append}
+use Rattle.aseba_message.proofs.Cuts.{cut, cut-append, cut-next, cut-none, frameless, frame-fits, frame-from_fits, length_word-append}
 
 bad-tells : (bytes : List ℕ) → is_bad bytes ≡ true → (2 ≤ length bytes) × (1024 < length_word bytes)
 bad-tells bytes h = (grind (arith, nat_tests), grind (arith, nat_tests))
@@ -183,3 +183,12 @@ too_long held false false = refl
 -- a reader that stands there says that the length is too long exactly where what remains begins with one
 pub stands-bad : (bytes held : List ℕ) → StandsAt bytes held → is_bad (rest_of bytes) ≡ is_too_long (answer held)
 stands-bad bytes held stands = rest-bad bytes held (is_bad held) refl stands ∙ too_long held (is_bad held) (is_frame held)
+
+frame-tested : (held : List ℕ) (bad whole : Bool) → is_frame held ≡ whole → (if bad then TooLong (length_word held) else (if whole then Whole else More)) ≡ Whole → is_frame held ≡ true
+frame-tested held true whole e f = cc
+frame-tested held false true e f = e
+frame-tested held false false e f = cc
+
+-- where a frame has ended, the bytes held are that frame
+pub frame_held : (held : List ℕ) (said : Fed) → said ≡ answer held → said ≡ Whole → is_frame held ≡ true
+frame_held held said e f = frame-tested held (is_bad held) (is_frame held) refl (sym e ∙ f)

@@ -1,5 +1,5 @@
 -- What a reader of frames holds, and what it answers.
-use Rattle.std.specs.Prelude.{◌≡◌, ℕ, zero, suc, ◌+◌, ◌<◌, ◌≤◌, Bool, true, false, if◌then◌else◌, List, [], ◌∷◌, ◌++◌, length}
+use Rattle.std.specs.Prelude.{ℕ, ◌+◌, ◌<◌, ◌≤◌, Bool, true, false, if◌then◌else◌, List, [], ◌∷◌, ◌++◌, length}
 use Rattle.aseba_message.specs.Frames.{length_word, has_length, is_bad, is_frame, frame_len}
 use Rattle.aseba_message.specs.declared.reader.Fed.{Fed}
 use Rattle.aseba_message.specs.declared.reader.Fed.TheVariants.{More, Whole, TooLong}

@@ -106,20 +106,16 @@ impl FrameReader {
     /// Takes the bytes of a piece up to the first at which a frame ends or that makes a length too
     /// long, or all of them. It is the same as to feed them one by one, and copies them at once.
     pub fn feed_piece(&mut self, piece: &[u8]) -> Taken
+        requires { 0 < length piece.now }
         ensures taken { (result.count, result.fed, self.new) ≡ taken self.old piece.now }
+        ensures answer { result.fed ≡ answer self.new }
         ensures stream { (bytes : Items ℕ) → StandsAt bytes self.old
             → StandsAt (bytes ++ take result.count piece.now) self.new
             × (frames_of (bytes ++ take result.count piece.now) ≡ frames_of bytes ++ ended result.fed self.new) }
-        ensures bad { (bytes : Items ℕ) → StandsAt bytes self.old → 0 < length piece.now
+        ensures bad { (bytes : Items ℕ) → StandsAt bytes self.old
             → is_bad (rest_of (bytes ++ take result.count piece.now)) ≡ is_too_long result.fed }
     {
-        match piece.split_first() {
-            Some((first, rest)) => self.take_piece(*first, rest),
-            None => Taken {
-                count: 0,
-                fed: Fed::More,
-            },
-        }
+        self.take_piece(piece[0], &piece[1..])
     }
 
     /// The first byte makes way for a frame. Behind it at most the rest of a length word and the

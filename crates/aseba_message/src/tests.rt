@@ -48,13 +48,6 @@ fn pieces(rt: HostRuntime) {
         }
     );
     assert_eq!(rt;
-        reader.feed_piece(&ONE[1..1]),
-        Taken {
-            count: 0,
-            fed: Fed::More
-        }
-    );
-    assert_eq!(rt;
         reader.feed_piece(&ONE[1..7]),
         Taken {
             count: 6,
@@ -99,16 +92,15 @@ fn longest(rt: HostRuntime) -> Result<(), Fail> {
             fed: Fed::More
         }
     );
-    match reader.feed_piece(&payload) {
-        Taken {
-            count: 1,
-            fed: Fed::Whole,
-        } => {
+    let taken = reader.feed_piece(&payload);
+    assert_eq!(rt; taken.count, 1);
+    match taken.fed {
+        Fed::Whole => {
             let frame = reader.frame(rt.alloc())?;
             assert_eq!(rt; frame.payload.as_slice(), payload.as_slice());
             Ok(())
         }
-        _ => Err(Fail::from("no frame")),
+        Fed::More | Fed::TooLong { .. } => Err(Fail::from("no frame")),
     }
 }
 

@@ -1,5 +1,4 @@
-use Rattle.std.proofs.Common.{◌≡◌, [], ◌∷◌, ◌++◌, subst, sym, ap, ◌∙◌}
-use Rattle.aseba_message.specs.Reader.{answer}
+use Rattle.std.proofs.Common.{[], ◌∷◌, ◌++◌, subst, sym, ap, ◌∙◌}
 use Rattle.aseba_message.specs.Cut.{frames_of, ended, is_too_long}
 use Rattle.aseba_message.proofs.Standing.{Step, step, stands-bad}
 use Rattle.aseba_message.proofs.reader.FrameReader.feed.Goals as goal

@@ -1,4 +1,4 @@
-use Rattle.std.proofs.Common.{◌≡◌, ◌+◌, ◌-◌, ◌++◌, ◌∷◌, min, true, false, length, take, drop, sym, ap, ◌∙◌, length-drop, rules}
+use Rattle.std.proofs.Common.{◌≡◌, ◌-◌, ◌++◌, min, true, false, length, take, drop, sym, ap, ◌∙◌, length-drop, rules}
 use Rattle.std.proofs.Math.Seq.{take-length}
 use Rattle.aseba_message.specs.Reader.{answer, is_more, wanted}
 use Rattle.aseba_message.proofs.Pieces.{second-ends, third-ends}
@@ -12,8 +12,7 @@ returns-then-not-is_more-2-clause-taken c =
     let f = c.fill-begun.ensures in
     let more : is_more (answer first) ≡ true = search rules in
     let stop : is_more (answer next) ≡ false = search rules in
-    ap (λ fed. (1 + n, fed, next)) f.fed
-    ∙ second-ends c.args.self.now c.args.first c.args.rest.now first n next c.take_byte-fed.ensures.bytes more f.count f.room f.bytes stop
+    second-ends c.args.self.now c.args.first c.args.rest.now first n next c.take_byte-fed.ensures.bytes more f.count f.room f.bytes stop c.fill-begun.result.fed f.fed
 
 pub returns-clause-taken : goal.returns-clause-taken
 returns-clause-taken c =
@@ -28,6 +27,5 @@ returns-clause-taken c =
     let more : is_more (answer first) ≡ true = search rules in
     let on : is_more (answer next) ≡ true = search rules in
     let behind : take (length rest - n) (drop n rest) ≡ drop n rest = ap (λ k. take k (drop n rest)) (sym (length-drop n rest)) ∙ take-length (drop n rest) in
-    ap (λ fed. (1 + n + m, fed, last)) g.fed
-    ∙ third-ends c.args.self.now c.args.first rest first n m next last c.take_byte-fed.ensures.bytes more f.count f.room f.bytes on
-    (g.count ∙ ap (λ xs. min (wanted next - length next) (length xs)) behind) g.room (g.bytes ∙ ap (λ xs. next ++ take m xs) behind)
+    third-ends c.args.self.now c.args.first rest first n m next last c.take_byte-fed.ensures.bytes more f.count f.room f.bytes on
+    (g.count ∙ ap (λ xs. min (wanted next - length next) (length xs)) behind) g.room (g.bytes ∙ ap (λ xs. next ++ take m xs) behind) c.fill-ended.result.fed g.fed
