@@ -107,6 +107,8 @@ impl FrameReader {
     /// long, or all of them. It is the same as to feed them one by one, and copies them at once.
     pub fn feed_piece(&mut self, piece: &[u8]) -> Taken
         requires { 0 < length piece.now }
+        ensures some { 0 < result.count }
+        ensures within { result.count ≤ length piece.now }
         ensures taken { (result.count, result.fed, self.new) ≡ taken self.old piece.now }
         ensures answer { result.fed ≡ answer self.new }
         ensures stream { (bytes : Items ℕ) → StandsAt bytes self.old
@@ -122,6 +124,8 @@ impl FrameReader {
     /// rest of a frame are to be filled.
     fn take_piece(&mut self, first: u8, rest: &[u8]) -> Taken
         ensures held { Held self.old }
+        ensures some { 0 < result.count }
+        ensures within { result.count ≤ 1 + length rest.now }
         ensures taken { (result.count, result.fed, self.new) ≡ taken self.old (first ∷ rest.now) }
         ensures answer { result.fed ≡ answer self.new }
     {
