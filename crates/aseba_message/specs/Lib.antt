@@ -1,3 +1,4 @@
 pub mod Frames
 pub mod Message
 pub mod Reader
+pub mod Cut

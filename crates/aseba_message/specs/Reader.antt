@@ -1,6 +1,6 @@
 -- What a reader of frames holds, and what it answers.
-use Rattle.std.specs.Prelude.{◌≡◌, ℕ, zero, suc, ◌+◌, ◌<◌, ◌≤◌, Bool, true, false, if◌then◌else◌, List, [], ◌∷◌, ◌++◌, length}
-use Rattle.aseba_message.specs.Frames.{length_word, is_bad, is_frame, frame_len}
+use Rattle.std.specs.Prelude.{ℕ, ◌+◌, ◌<◌, ◌≤◌, Bool, true, false, if◌then◌else◌, List, [], ◌∷◌, ◌++◌, length}
+use Rattle.aseba_message.specs.Frames.{length_word, has_length, is_bad, is_frame, frame_len}
 use Rattle.aseba_message.specs.declared.reader.Fed.{Fed}
 use Rattle.aseba_message.specs.declared.reader.Fed.TheVariants.{More, Whole, TooLong}
 
@@ -20,3 +20,22 @@ begun bytes = if is_frame bytes then [] else bytes
 -- the bytes held after one more; behind a bad length nothing is taken
 abbrev pub fed : List ℕ → ℕ → List ℕ
 fed bytes byte = if is_bad bytes then bytes else begun bytes ++ byte ∷ []
+
+abbrev pub is_more : Fed → Bool
+is_more More = true
+is_more Whole = false
+is_more (TooLong len) = false
+
+-- so many bytes more were taken
+abbrev pub also_taken : ℕ → ℕ × Fed × List ℕ → ℕ × Fed × List ℕ
+also_taken n r = (n + r.0, r.1, r.2)
+
+-- A piece is taken up to the first byte that says more than that the frame goes on: how many bytes that are, what the last one says, and what is held then.
+abbrev pub taken : List ℕ → List ℕ → ℕ × Fed × List ℕ
+taken held [] = (0, More, held)
+taken held (byte ∷ piece) =
+    if is_more (answer (fed held byte)) then also_taken 1 (taken (fed held byte) piece) else (1, answer (fed held byte), fed held byte)
+
+-- how many bytes it takes until more can be said
+abbrev pub wanted : List ℕ → ℕ
+wanted held = if has_length held then frame_len held else 2

@@ -4,8 +4,12 @@
 
 mod encoding;
 mod frame;
+mod law;
 mod reader;
+#[cfg(test)]
+mod tests;
 
 pub use encoding::encode;
 pub use frame::Frame;
-pub use reader::{Fed, FrameReader};
+pub use law::one_cut;
+pub use reader::{Fed, FrameReader, Taken};

@@ -1,6 +1,7 @@
-ghost use Rattle.std.specs.Prelude.{◌≡◌, ◌<◌, ◌≤◌, [], length, if◌then◌else◌, IfOk, IsTrue};
-ghost use Rattle.aseba_message.specs.Frames.{is_bad, is_frame, length_word, message_of};
-ghost use Rattle.aseba_message.specs.Reader.{answer, fed};
+ghost use Rattle.std.specs.Prelude.{◌≡◌, ◌+◌, ◌<◌, ◌≤◌, ℕ, List as Items, [], ◌∷◌, ◌++◌, ◌-◌, min, take, length, if◌then◌else◌, IfOk, IsTrue};
+ghost use Rattle.aseba_message.specs.Frames.{is_bad, is_frame, message_of};
+ghost use Rattle.aseba_message.specs.Reader.{Held, answer, fed, is_more, taken, wanted};
+ghost use Rattle.aseba_message.specs.Cut.{StandsAt, frames_of, rest_of, ended, is_too_long};
 
 use crate::frame::Frame;
 use aseba_words::{List, Mem};
@@ -17,6 +18,27 @@ pub enum Fed {
     Whole,
     /// The frame's length is above 1024, so nothing that comes can be read any more.
     TooLong { len: u16 },
+}
+
+impl Fed {
+    /// Whether the frame goes on.
+    pub fn is_more(self) -> bool
+        ensures { result ≡ is_more self }
+    {
+        match self {
+            Fed::More => true,
+            Fed::Whole | Fed::TooLong { .. } => false,
+        }
+    }
+}
+
+/// What a piece of a stream did.
+#[derive(Clone, Copy, Debug, PartialEq, Eq)]
+pub struct Taken {
+    /// How many of its bytes were taken.
+    pub count: usize,
+    /// What the last of them did.
+    pub fed: Fed,
 }
 
 /// The bytes before a payload.
@@ -46,7 +68,8 @@ impl Model for FrameReader {
 impl FrameReader {
     /// A reader at the beginning of a stream.
     pub fn new() -> FrameReader
-        ensures { result ≡ [] }
+        ensures bytes { result ≡ [] }
+        ensures stream { StandsAt [] result }
     {
         FrameReader {
             buffer: [0; LONGEST],
@@ -58,6 +81,17 @@ impl FrameReader {
     pub fn feed(&mut self, byte: u8) -> Fed
         ensures bytes { self.new ≡ fed self.old byte }
         ensures answer { result ≡ answer self.new }
+        ensures stream { (bytes : Items ℕ) → StandsAt bytes self.old
+            → StandsAt (bytes ++ byte ∷ []) self.new × (frames_of (bytes ++ byte ∷ []) ≡ frames_of bytes ++ ended result self.new) }
+        ensures bad { (bytes : Items ℕ) → StandsAt bytes self.old → is_bad (rest_of (bytes ++ byte ∷ [])) ≡ is_too_long result }
+    {
+        self.take_byte(byte)
+    }
+
+    fn take_byte(&mut self, byte: u8) -> Fed
+        ensures held { Held self.old }
+        ensures bytes { self.new ≡ fed self.old byte }
+        ensures answer { result ≡ answer self.new }
     {
         match answer_of(&self.buffer[..self.len]) {
             Fed::TooLong { len } => return Fed::TooLong { len },
@@ -67,6 +101,68 @@ impl FrameReader {
         self.buffer[self.len] = byte;
         self.len += 1;
         answer_of(&self.buffer[..self.len])
+    }
+
+    /// Takes the bytes of a piece up to the first at which a frame ends or that makes a length too
+    /// long, or all of them. It is the same as to feed them one by one, and copies them at once.
+    pub fn feed_piece(&mut self, piece: &[u8]) -> Taken
+        requires { 0 < length piece.now }
+        ensures some { 0 < result.count }
+        ensures within { result.count ≤ length piece.now }
+        ensures taken { (result.count, result.fed, self.new) ≡ taken self.old piece.now }
+        ensures answer { result.fed ≡ answer self.new }
+        ensures stream { (bytes : Items ℕ) → StandsAt bytes self.old
+            → StandsAt (bytes ++ take result.count piece.now) self.new
+            × (frames_of (bytes ++ take result.count piece.now) ≡ frames_of bytes ++ ended result.fed self.new) }
+        ensures bad { (bytes : Items ℕ) → StandsAt bytes self.old
+            → is_bad (rest_of (bytes ++ take result.count piece.now)) ≡ is_too_long result.fed }
+    {
+        self.take_piece(piece[0], &piece[1..])
+    }
+
+    /// The first byte makes way for a frame. Behind it at most the rest of a length word and the
+    /// rest of a frame are to be filled.
+    fn take_piece(&mut self, first: u8, rest: &[u8]) -> Taken
+        ensures held { Held self.old }
+        ensures some { 0 < result.count }
+        ensures within { result.count ≤ 1 + length rest.now }
+        ensures taken { (result.count, result.fed, self.new) ≡ taken self.old (first ∷ rest.now) }
+        ensures answer { result.fed ≡ answer self.new }
+    {
+        let fed = self.take_byte(first);
+        if !fed.is_more() {
+            return Taken { count: 1, fed };
+        }
+        let begun = self.fill(rest);
+        if !begun.fed.is_more() {
+            return Taken {
+                count: 1 + begun.count,
+                fed: begun.fed,
+            };
+        }
+        let ended = self.fill(&rest[begun.count..]);
+        Taken {
+            count: 1 + begun.count + ended.count,
+            fed: ended.fed,
+        }
+    }
+
+    /// Takes bytes up to the one that may say more than that the frame goes on.
+    fn fill(&mut self, piece: &[u8]) -> Taken
+        requires { IsTrue (is_more (answer self.old)) }
+        ensures room { length self.old ≤ wanted self.old }
+        ensures count { result.count ≡ min (wanted self.old - length self.old) (length piece.now) }
+        ensures bytes { self.new ≡ self.old ++ take result.count piece.now }
+        ensures fed { result.fed ≡ answer self.new }
+    {
+        let wanted = wanted_of(&self.buffer[..self.len]);
+        let count = (wanted - self.len).min(piece.len());
+        put(&mut self.buffer, self.len, &piece[..count]);
+        self.len += count;
+        Taken {
+            count,
+            fed: answer_of(&self.buffer[..self.len]),
+        }
     }
 
     /// The frame that has just ended.
@@ -103,6 +199,25 @@ fn answer_of(bytes: &[u8]) -> Fed
     } else {
         Fed::More
     }
+}
+
+/// How many bytes it takes until more can be said than that the frame goes on.
+fn wanted_of(bytes: &[u8]) -> usize
+    ensures { result ≡ wanted bytes.now }
+{
+    if bytes.len() < 2 {
+        2
+    } else {
+        HEADER + usize::from(LittleEndian::read_u16(bytes))
+    }
+}
+
+/// Writes a piece at a place.
+fn put(buffer: &mut [u8], at: usize, piece: &[u8])
+    requires { at + length piece.now ≤ length buffer.old }
+    ensures { take (at + length piece.now) buffer.new ≡ take at buffer.old ++ piece.now }
+{
+    buffer[at..at + piece.len()].copy_from_slice(piece);
 }
 
 /// The frame that these bytes are.

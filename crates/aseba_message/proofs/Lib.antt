@@ -1,0 +1,4 @@
+pub mod Cuts
+pub mod Standing
+pub mod Pieces
+pub mod OneCut
