@@ -1,0 +1,15 @@
+//! The text of a source as tokens.
+#![tactic(auto)]
+
+mod bytes;
+mod comments;
+mod error;
+mod keys;
+mod lexemes;
+mod lexer;
+mod numbers;
+mod places;
+mod signs;
+
+pub use error::LexError;
+pub use places::end_of;
