@@ -43,7 +43,7 @@ begins b rest (sign c r e w s) =
     (no-sign 32 refl (λ c. refl) (λ c d. refl) rest) (no-sign 9 refl (λ c. refl) (λ c d. refl) rest) (no-sign 13 refl (λ c. refl) (λ c d. refl) rest)
     (no-sign 10 refl (λ c. refl) (λ c d. refl) rest) (no-sign 35 refl (λ c. refl) (λ c d. refl) rest) s
 
-no-lexeme : (n : ℕ) (text : List ℕ) → n ≤ 0 → IsLexeme (take n text) → ⊥
+pub no-lexeme : (n : ℕ) (text : List ℕ) → n ≤ 0 → IsLexeme (take n text) → ⊥
 no-lexeme zero text h (word b rest e w a) = cc
 no-lexeme zero text h (sign b rest e w s) = cc
 no-lexeme (suc n) text h l = omega arith

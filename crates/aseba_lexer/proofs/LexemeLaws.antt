@@ -130,6 +130,7 @@ pub longest-len : (text : List ℕ) (n : ℕ) → IsLongest text n → n ≡ lex
 longest-len text n l = same (lexeme_len text) refl where
   least : n ≤ lexeme_len text
   least = within text n l.within l.lexeme
+
   same : (m : ℕ) → lexeme_len text ≡ m → n ≡ lexeme_len text
   same zero e = omega (arith, least)
   same (suc m) e = omega (arith, least, l.longest (lexeme_len text) (len-within text) (is-lexeme text (omega arith)))

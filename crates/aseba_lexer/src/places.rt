@@ -11,7 +11,7 @@ pub fn end_of(text: &[u8]) -> Pos
     requires { length text.now < 4294967295 }
     ensures { result ≡ places.behind places.start text.now }
 {
-    behind(Pos { line: 1, col: 1 }, text)
+    behind(START, text)
 }
 
 /// The place behind bytes.
