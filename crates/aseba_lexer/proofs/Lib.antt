@@ -1,4 +1,4 @@
-pub mod CutLaws
 pub mod FoundLaws
-pub mod LexemeLaws
 pub mod NumberLaws
+pub mod NumberValue
+pub mod Spelled

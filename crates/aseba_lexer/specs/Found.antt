@@ -1,70 +1,83 @@
--- What begins at the front of a text, as a function.
-use Rattle.std.specs.Prelude.{◌≡◌, ◌⊎◌, ◌++◌, Result, Ok, Err, ℕ, ◌+◌, Bool, true, false, ◌==◌, List, [], ◌∷◌, take, drop, Option, Some, None, is_some, if◌then◌else◌}
+-- What begins at the front of a text, as a function: how far a blank or a comment goes, or which token of how many bytes there is, or what is wrong.
+use Rattle.std.specs.Prelude.{◌≡◌, ◌⊎◌, ◌++◌, Result, Ok, Err, ℕ, ◌+◌, Bool, ◌||◌, ◌==◌, List, [], ◌∷◌, take, drop, Option, Some, None, if◌then◌else◌}
 use Rattle.std.specs.List.{prefix_len}
 use Rattle.aseba_tree.specs.declared.pos.Pos.{Pos}
 use Rattle.aseba_tree.specs.declared.token.Token.{Token}
 use Rattle.aseba_tree.specs.declared.token.TokenKind.{TokenKind}
+use Rattle.aseba_tree.specs.declared.token.Sign.{Sign}
+use Rattle.aseba_tree.specs.Tokens.{is_blank, is_digit, is_name_start, is_word_byte, spelled_in, symbols, word_kind, LexFault, bad_byte, bad_number, open_comment}
+use Rattle.aseba_lexer.specs.declared.signs.Spelled.{Spelled}
 use Rattle.aseba_lexer.specs.declared.error.LexError.{LexError}
 use Rattle.aseba_lexer.specs.declared.error.LexError.TheVariants as Error
-use Rattle.aseba_lexer.specs.Bytes.{is_blank, begins_word, goes_on_word}
 use Rattle.aseba_lexer.specs.Comments.{begins_with_star, line_len, block_len}
-use Rattle.aseba_lexer.specs.Words.{one_sign, two_sign, three_sign, kind_of}
 
--- a piece of that many bytes with its tokens, or the reason why there is none
 pub data Found : Type 0 where
-  piece : ℕ → List Token → Found
-  fault : LexError → Found
+  gap_of : ℕ → Found
+  token_of : ℕ → TokenKind → Found
+  wrong : LexFault → Found
 
--- the length of the longest symbol, 0 where none begins
-abbrev pub one_len : ℕ → ℕ
-one_len a = if is_some (one_sign a) then 1 else 0
-
-abbrev pub two_len : ℕ → ℕ → ℕ
-two_len a b = if is_some (two_sign a b) then 2 else one_len a
-
-abbrev pub sign_len : List ℕ → ℕ
-sign_len [] = 0
-sign_len (a ∷ []) = one_len a
-sign_len (a ∷ b ∷ []) = two_len a b
-sign_len (a ∷ b ∷ c ∷ rest) = if is_some (three_sign a b c) then 3 else two_len a b
+-- a letter, a digit or `_`
+abbrev pub begins_word : ℕ → Bool
+begins_word b = is_name_start b || is_digit b
 
 -- how far a word goes on
 abbrev pub word_rest : List ℕ → ℕ
-word_rest text = prefix_len goes_on_word text
+word_rest text = prefix_len is_word_byte text
 
--- the length of the longest lexeme, 0 where none begins
-abbrev pub lexeme_len : List ℕ → ℕ
-lexeme_len [] = 0
-lexeme_len (b ∷ rest) = if begins_word b then 1 + word_rest rest else sign_len (b ∷ rest)
+abbrev pub word_found : ℕ → Option TokenKind → Found
+word_found n (Some kind) = token_of n kind
+word_found n None = wrong bad_number
 
-abbrev pub kind_found : Pos → ℕ → Option TokenKind → Found
-kind_found at n (Some kind) = piece n (record { at = at; kind = kind } ∷ [])
-kind_found at n None = fault (Error.BadNumber at)
+-- a symbol of n bytes, or else what a shorter one gives
+abbrev pub sign_or : ℕ → Option Sign → Found → Found
+sign_or n (Some sign) shorter = token_of n (TokenKind.Sign sign)
+sign_or n None shorter = shorter
 
-abbrev pub lexeme_found : Pos → List ℕ → ℕ → Found
-lexeme_found at text n = if n == 0 then fault (Error.BadByte at) else kind_found at n (kind_of (take n text))
+abbrev pub one_found : ℕ → Found
+one_found a = sign_or 1 (spelled_in symbols (a ∷ [])) (wrong bad_byte)
 
-abbrev pub block_found : Pos → Option ℕ → Found
-block_found at (Some k) = piece (2 + k) []
-block_found at None = fault (Error.OpenComment at)
+abbrev pub two_found : ℕ → ℕ → Found
+two_found a b = sign_or 2 (spelled_in symbols (a ∷ b ∷ [])) (one_found a)
 
-abbrev pub comment_found : Pos → List ℕ → Found
-comment_found at rest = if begins_with_star rest then block_found at (block_len (drop 1 rest)) else piece (1 + line_len rest) []
+-- the longest symbol at the front
+abbrev pub sign_found : List ℕ → Found
+sign_found [] = wrong bad_byte
+sign_found (a ∷ []) = one_found a
+sign_found (a ∷ b ∷ []) = two_found a b
+sign_found (a ∷ b ∷ c ∷ rest) = sign_or 3 (spelled_in symbols (a ∷ b ∷ c ∷ [])) (two_found a b)
 
-abbrev pub found : Pos → List ℕ → Found
-found at [] = piece 0 []
-found at (b ∷ rest) =
-    if is_blank b then piece 1 []
-    else if b == 35 then comment_found at rest
-    else lexeme_found at (b ∷ rest) (lexeme_len (b ∷ rest))
+-- the same of the symbol that a call answers
+abbrev pub sign_result : Option Spelled → Found
+sign_result (Some s) = token_of s.len (TokenKind.Sign s.sign)
+sign_result None = wrong bad_byte
 
--- What a call answers that adds the front's tokens to those before it: the length of the piece, or
--- the fault or want of memory.
-abbrev pub IsStep : Found → List Token → List Token → Result ℕ LexError → Type 0
-IsStep found before after (Ok n) = (tokens : List Token) × (found ≡ piece n tokens) × (after ≡ before ++ tokens)
-IsStep found before after (Err error) = (error ≡ Error.Mem) ⊎ (found ≡ fault error)
+abbrev pub block_found : Option ℕ → Found
+block_found (Some k) = gap_of (2 + k)
+block_found None = wrong open_comment
+
+abbrev pub comment_found : List ℕ → Found
+comment_found rest = if begins_with_star rest then block_found (block_len (drop 1 rest)) else gap_of (1 + line_len rest)
+
+-- a word at the front, if one begins there
+abbrev pub word_at : List ℕ → Found
+word_at text = word_found (1 + word_rest (drop 1 text)) (word_kind (take (1 + word_rest (drop 1 text)) text))
+
+abbrev pub found : List ℕ → Found
+found [] = gap_of 0
+found (b ∷ rest) = if is_blank b then gap_of 1 else if b == 35 then comment_found rest else if begins_word b then word_at (b ∷ rest) else sign_found (b ∷ rest)
+
+-- the error that tells of a fault at a place
+abbrev pub error_of : LexFault → Pos → LexError
+error_of bad_byte at = Error.BadByte at
+error_of bad_number at = Error.BadNumber at
+error_of open_comment at = Error.OpenComment at
+
+-- What a call answers that adds the front's token, if it is one, to those before it: the length of what was found, or what is wrong, or want of memory.
+abbrev pub IsStep : Pos → Found → List Token → List Token → Result ℕ LexError → Type 0
+IsStep at found before after (Ok n) = ((found ≡ gap_of n) × (after ≡ before)) ⊎ ((kind : TokenKind) × (found ≡ token_of n kind) × (after ≡ before ++ record { at = at; kind = kind } ∷ []))
+IsStep at found before after (Err error) = (error ≡ Error.Mem) ⊎ ((fault : LexFault) × (found ≡ wrong fault) × (error ≡ error_of fault at))
 
 -- the same of a call that adds none
-abbrev pub IsSkip : Found → Result ℕ LexError → Type 0
-IsSkip found (Ok n) = found ≡ piece n []
-IsSkip found (Err error) = found ≡ fault error
+abbrev pub IsSkip : Pos → Found → Result ℕ LexError → Type 0
+IsSkip at found (Ok n) = found ≡ gap_of n
+IsSkip at found (Err error) = (fault : LexFault) × (found ≡ wrong fault) × (error ≡ error_of fault at)

@@ -1,7 +1,4 @@
-pub mod Bytes
 pub mod Comments
 pub mod Found
+pub mod Lexed
 pub mod Numbers
-pub mod Places
-pub mod Tokens
-pub mod Words

@@ -1,15 +1,15 @@
--- The three spellings of numbers.
+-- A number as the lexer reads it, digit by digit; it comes to the value of the spelling.
 use Rattle.std.specs.Prelude.{ℕ, ◌+◌, ◌-◌, ◌*◌, Bool, ◌&&◌, not, ◌==◌, nat_le, nat_lt, List, [], ◌∷◌, Option, Some, None, if◌then◌else◌, ℤ, pos, fold}
 use Rattle.std.specs.List.{list_all}
 use Rattle.aseba_words.specs.Cell.{wrapped}
-use Rattle.aseba_lexer.specs.Bytes.{is_digit}
+use Rattle.aseba_tree.specs.Tokens.{is_digit, is_within}
 
 -- the value of a digit, of either case; 16 for what is none
 abbrev pub digit : ℕ → ℕ
 digit b =
     if is_digit b then b - 48
-    else if nat_le 97 b && nat_le b 102 then b - 87
-    else if nat_le 65 b && nat_le b 70 then b - 55
+    else if is_within 97 102 b then b - 87
+    else if is_within 65 70 b then b - 55
     else 16
 
 -- the number that digits spell
@@ -36,6 +36,6 @@ abbrev pub number_of : List ℕ → Option ℕ
 number_of [] = None
 number_of (a ∷ []) = number 10 32767 (a ∷ [])
 number_of (a ∷ b ∷ digits) =
-    if (a == 48) && (b == 120) then number 16 65535 digits
-    else if (a == 48) && (b == 98) then number 2 65535 digits
+    if (48 == a) && (120 == b) then number 16 65535 digits
+    else if (48 == a) && (98 == b) then number 2 65535 digits
     else number 10 32767 (a ∷ b ∷ digits)

@@ -17,21 +17,11 @@ pub fn block_len(text: &[u8]) -> Option<usize>
     let mut passed = 0;
     let mut rest = text;
     while let [_, after @ ..] = rest {
-        if closes(rest) {
+        if rest.starts_with(b"*#") {
             return Some(passed + 2);
         }
         passed += 1;
         rest = after;
     }
     None
-}
-
-/// Whether a text begins with `*#`.
-fn closes(text: &[u8]) -> bool
-    ensures { result ≡ comments.closes text.now }
-{
-    match text {
-        [a, b, ..] => *a == b'*' && *b == b'#',
-        _ => false,
-    }
 }

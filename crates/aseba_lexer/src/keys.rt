@@ -1,55 +1,55 @@
 ghost use Rattle.std.specs.Prelude.{◌≡◌};
-ghost use Rattle.aseba_lexer.specs.Words.{key_of};
+ghost use Rattle.aseba_tree.specs.Tokens.{spelled_in, keywords};
 
 use aseba_tree::Key;
 
 /// The keyword that a word is, if it is one.
 pub fn key_of_word(word: &[u8]) -> Option<Key>
-    ensures { result ≡ key_of word.now }
+    ensures { result ≡ spelled_in keywords word.now }
 {
-    if word == b"var".as_slice() {
+    if b"var".as_slice() == word {
         Some(Key::Var)
-    } else if word == b"onevent".as_slice() {
+    } else if b"onevent".as_slice() == word {
         Some(Key::OnEvent)
-    } else if word == b"sub".as_slice() {
+    } else if b"sub".as_slice() == word {
         Some(Key::Sub)
-    } else if word == b"if".as_slice() {
+    } else if b"if".as_slice() == word {
         Some(Key::If)
-    } else if word == b"then".as_slice() {
+    } else if b"then".as_slice() == word {
         Some(Key::Then)
-    } else if word == b"elseif".as_slice() {
+    } else if b"elseif".as_slice() == word {
         Some(Key::ElseIf)
-    } else if word == b"else".as_slice() {
+    } else if b"else".as_slice() == word {
         Some(Key::Else)
-    } else if word == b"end".as_slice() {
+    } else if b"end".as_slice() == word {
         Some(Key::End)
-    } else if word == b"when".as_slice() {
+    } else if b"when".as_slice() == word {
         Some(Key::When)
-    } else if word == b"do".as_slice() {
+    } else if b"do".as_slice() == word {
         Some(Key::Do)
-    } else if word == b"while".as_slice() {
+    } else if b"while".as_slice() == word {
         Some(Key::While)
-    } else if word == b"for".as_slice() {
+    } else if b"for".as_slice() == word {
         Some(Key::For)
-    } else if word == b"in".as_slice() {
+    } else if b"in".as_slice() == word {
         Some(Key::In)
-    } else if word == b"step".as_slice() {
+    } else if b"step".as_slice() == word {
         Some(Key::Step)
-    } else if word == b"emit".as_slice() {
+    } else if b"emit".as_slice() == word {
         Some(Key::Emit)
-    } else if word == b"callsub".as_slice() {
+    } else if b"callsub".as_slice() == word {
         Some(Key::CallSub)
-    } else if word == b"call".as_slice() {
+    } else if b"call".as_slice() == word {
         Some(Key::Call)
-    } else if word == b"return".as_slice() {
+    } else if b"return".as_slice() == word {
         Some(Key::Return)
-    } else if word == b"and".as_slice() {
+    } else if b"and".as_slice() == word {
         Some(Key::And)
-    } else if word == b"or".as_slice() {
+    } else if b"or".as_slice() == word {
         Some(Key::Or)
-    } else if word == b"not".as_slice() {
+    } else if b"not".as_slice() == word {
         Some(Key::Not)
-    } else if word == b"abs".as_slice() {
+    } else if b"abs".as_slice() == word {
         Some(Key::Abs)
     } else {
         None

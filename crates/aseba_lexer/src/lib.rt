@@ -5,12 +5,11 @@ mod bytes;
 mod comments;
 mod error;
 mod keys;
-mod lexemes;
 mod lexer;
 mod numbers;
 mod places;
 mod signs;
+mod words;
 
 pub use error::LexError;
-pub use lexer::lex;
 pub use places::end_of;

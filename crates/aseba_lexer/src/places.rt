@@ -1,5 +1,5 @@
-ghost use Rattle.std.specs.Prelude.{◌≡◌, ◌+◌, ◌<◌, ◌≤◌, length};
-ghost use Rattle.aseba_lexer.specs.Places as places;
+ghost use Rattle.std.specs.Prelude.{◌≡◌, ◌+◌, ◌<◌, ◌≤◌, [], ◌∷◌, length};
+ghost use Rattle.aseba_tree.specs.Tokens as places;
 
 use aseba_tree::Pos;
 
@@ -9,7 +9,7 @@ pub const START: Pos = Pos { line: 1, col: 1 };
 /// The place after the text's last byte. It takes no memory.
 pub fn end_of(text: &[u8]) -> Pos
     requires { length text.now < 4294967295 }
-    ensures { result ≡ places.behind places.start text.now }
+    ensures { result ≡ places.behind places.first_place text.now }
 {
     behind(START, text)
 }
@@ -37,7 +37,7 @@ fn behind_byte(at: Pos, b: u8) -> Pos
     requires line { 1 ≤ at.line }
     requires col { 1 ≤ at.col }
     requires room { at.line + at.col < 4294967296 }
-    ensures value { result ≡ places.behind_byte at b }
+    ensures value { result ≡ places.behind at (b ∷ []) }
     ensures line { 1 ≤ result.line }
     ensures col { 1 ≤ result.col }
     ensures room { result.line + result.col ≤ at.line + at.col + 1 }

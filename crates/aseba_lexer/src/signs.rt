@@ -1,11 +1,55 @@
-ghost use Rattle.std.specs.Prelude.{◌≡◌};
-ghost use Rattle.aseba_lexer.specs.Words.{one_sign, two_sign, three_sign};
+ghost use Rattle.std.specs.Prelude.{◌≡◌, ◌≤◌, [], ◌∷◌, length, IfSome};
+ghost use Rattle.aseba_tree.specs.Tokens.{spelled_in, symbols};
+ghost use Rattle.aseba_lexer.specs.Found as found;
 
 use aseba_tree::Sign;
 
+/// A symbol with the number of its bytes.
+#[derive(Clone, Copy)]
+pub struct Spelled {
+    pub sign: Sign,
+    pub len: usize,
+}
+
+/// The longest symbol at the front.
+pub fn sign_at(text: &[u8]) -> Option<Spelled>
+    ensures value { found.sign_result result ≡ found.sign_found text.now }
+    ensures within { IfSome result (λ s. (1 ≤ s.len) × (s.len ≤ length text.now)) }
+{
+    match text {
+        [] => None,
+        [a] => one_at(*a),
+        [a, b] => two_at(*a, *b),
+        [a, b, c, ..] => match three_sign_of(*a, *b, *c) {
+            Some(sign) => Some(Spelled { sign, len: 3 }),
+            None => two_at(*a, *b),
+        },
+    }
+}
+
+fn two_at(a: u8, b: u8) -> Option<Spelled>
+    ensures value { found.sign_result result ≡ found.two_found a b }
+    ensures within { IfSome result (λ s. (1 ≤ s.len) × (s.len ≤ 2)) }
+{
+    match two_sign_of(a, b) {
+        Some(sign) => Some(Spelled { sign, len: 2 }),
+        None => one_at(a),
+    }
+}
+
+fn one_at(a: u8) -> Option<Spelled>
+    ensures value { found.sign_result result ≡ found.one_found a }
+    ensures within { IfSome result (λ s. s.len ≡ 1) }
+{
+    match one_sign_of(a) {
+        Some(sign) => Some(Spelled { sign, len: 1 }),
+        None => None,
+    }
+}
+
 /// The symbol of one byte.
-pub fn one_sign_of(a: u8) -> Option<Sign>
-    ensures { result ≡ one_sign a }
+fn one_sign_of(a: u8) -> Option<Sign>
+    ensures { result ≡ spelled_in symbols (a ∷ []) }
 {
     match a {
         b'=' => Some(Sign::Assign),
@@ -31,8 +75,8 @@ pub fn one_sign_of(a: u8) -> Option<Sign>
 }
 
 /// The symbol of two bytes.
-pub fn two_sign_of(a: u8, b: u8) -> Option<Sign>
-    ensures { result ≡ two_sign a b }
+fn two_sign_of(a: u8, b: u8) -> Option<Sign>
+    ensures { result ≡ spelled_in symbols (a ∷ b ∷ []) }
 {
     match (a, b) {
         (b'+', b'=') => Some(Sign::PlusAssign),
@@ -56,8 +100,8 @@ pub fn two_sign_of(a: u8, b: u8) -> Option<Sign>
 }
 
 /// The symbol of three bytes.
-pub fn three_sign_of(a: u8, b: u8, c: u8) -> Option<Sign>
-    ensures { result ≡ three_sign a b c }
+fn three_sign_of(a: u8, b: u8, c: u8) -> Option<Sign>
+    ensures { result ≡ spelled_in symbols (a ∷ b ∷ c ∷ []) }
 {
     match (a, b, c) {
         (b'<', b'<', b'=') => Some(Sign::ShiftLeftAssign),

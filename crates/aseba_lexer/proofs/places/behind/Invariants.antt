@@ -1,5 +1,5 @@
 use Rattle.std.proofs.Common.{◌≡◌, ◌+◌, ◌≤◌, length}
-use Rattle.aseba_lexer.specs.Places as places
+use Rattle.aseba_tree.specs.Tokens as places
 use Rattle.aseba_lexer.proofs.places.behind.Given as goal
 
 abbrev pub invariant-loop-rest : goal.invariant-loop-rest
