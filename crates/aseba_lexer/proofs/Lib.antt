@@ -1,3 +1,4 @@
+pub mod CutLaws
 pub mod FoundLaws
 pub mod NumberLaws
 pub mod NumberValue

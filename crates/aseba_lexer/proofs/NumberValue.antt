@@ -149,7 +149,7 @@ two-bytes a b digits false true e f =
 two-bytes a b digits false false e f =
     based 10 32767 is_digit ten ten-same a (b ∷ digits)
     ∙ decimal-only (list_all is_digit (a ∷ b ∷ digits)) (48 == a) (120 == b) (98 == b) (some_of is_hex_digit digits) (some_of is_binary_digit digits)
-        (cell_below 32768 (number_in 10 (a ∷ b ∷ digits))) (cell_below 65536 (number_in 16 digits)) (cell_below 65536 (number_in 2 digits)) e f
+    (cell_below 32768 (number_in 10 (a ∷ b ∷ digits))) (cell_below 65536 (number_in 16 digits)) (cell_below 65536 (number_in 2 digits)) e f
 
 one-byte : (d p : Bool) (x y z : Option ℤ) → cond d x None ≡ cond d x (cond ((p && false) && false) y (cond ((p && false) && false) z None))
 one-byte true p x y z = refl

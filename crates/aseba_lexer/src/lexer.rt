@@ -13,6 +13,30 @@ use aseba_tree::{Pos, Token, TokenKind};
 use aseba_words::List;
 use std::alloc::Global;
 
+/// The tokens of a text, each with the place of its first byte, in time linear in the text. The
+/// error of a text that has none tells of the first place where nothing begins.
+pub fn lex(alloc: Global, text: &[u8]) -> Result<List<Token>, LexError>
+    requires { length text.now < 4294967295 }
+    ensures tokens { IfOk result (λ tokens. Tokens text.now tokens) }
+    ensures fault { IfErr result (λ error. TellsFault text.now error) }
+    ensures decided { IsDecided text.now }
+{
+    let mut tokens = List::new(alloc);
+    let mut at = START;
+    let mut rest = text;
+    while !rest.is_empty() {
+        match step(alloc, &mut tokens, at, rest) {
+            Ok(length) => {
+                let (piece, after) = rest.split_at(length);
+                at = behind(at, piece);
+                rest = after;
+            }
+            Err(error) => return Err(error),
+        }
+    }
+    Ok(tokens)
+}
+
 /// The length of what begins at the front of a text that isn't empty. The tokens get its token, if
 /// it is one.
 fn step(alloc: Global, tokens: &mut List<Token>, at: Pos, text: &[u8]) -> Result<usize, LexError>

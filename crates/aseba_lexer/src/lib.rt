@@ -12,4 +12,5 @@ mod signs;
 mod words;
 
 pub use error::LexError;
+pub use lexer::lex;
 pub use places::end_of;
