@@ -1,12 +1,11 @@
 -- A text is cut in one way, up to where nothing begins.
-use Rattle.std.proofs.Common.{◌≡◌, ◌∙◌, ℕ, zero, suc, ◌+◌, ◌-◌, ◌<◌, ◌≤◌, ◌⊎◌, inl, inr, List, [], ◌∷◌, ◌++◌, length, take, drop, Result, Ok, Err, codes, refl, sym, ap, subst, arith, length-append, length-drop, take-append-drop}
+use Rattle.std.proofs.Common.{◌≡◌, ◌∙◌, ℕ, zero, suc, ◌≤◌, ◌⊎◌, inl, inr, List, [], ◌∷◌, ◌++◌, length, take, drop, Ok, Err, refl, sym, ap, subst, arith, length-drop, take-append-drop}
 use Rattle.std.proofs.Math.Seq.{take-append_seam, drop-append_seam}
 use Rattle.aseba_tree.specs.declared.pos.Pos.{Pos}
 use Rattle.aseba_tree.specs.declared.token.Token.{Token}
 use Rattle.aseba_tree.specs.declared.token.TokenKind.{TokenKind}
 use Rattle.aseba_tree.specs.Tokens.{first_place, behind, Gap, blank, line_comment, closed_comment, Spelling, Cut, nothing, gap, token, Tokens, LexFault, bad_byte, bad_number, open_comment, Stuck, LexFaultAt}
 use Rattle.aseba_lexer.specs.declared.error.LexError.{LexError}
-use Rattle.aseba_lexer.specs.declared.error.LexError.TheVariants as Error
 use Rattle.aseba_lexer.specs.Found.{Found, gap_of, token_of, wrong, found, error_of, IsStep}
 use Rattle.aseba_lexer.specs.Lexed.{TellsFault, IsDecided}
 use Rattle.aseba_lexer.proofs.FoundLaws.{gap-found, token-found, stuck-found, Begins, found-begins}

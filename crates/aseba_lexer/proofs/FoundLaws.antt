@@ -1,15 +1,14 @@
 -- What is found at the front of a text is what begins there, and nothing else does.
-use Rattle.std.proofs.Common.{◌≡◌, ◌∙◌, ℕ, zero, suc, ◌+◌, ◌<◌, ◌≤◌, ◌==◌, Bool, true, false, not, ◌&&◌, ◌||◌, cond, List, [], ◌∷◌, ◌++◌, length, take, drop, Option, Some, None, is_some, codes, refl, sym, ap, subst, arith, length-append, take-append-drop}
+use Rattle.std.proofs.Common.{◌≡◌, ◌∙◌, ℕ, suc, ◌+◌, ◌≤◌, ◌==◌, Bool, true, false, not, ◌&&◌, ◌||◌, cond, List, [], ◌∷◌, ◌++◌, length, take, drop, Option, Some, None, is_some, codes, refl, sym, ap, subst, arith, length-append, take-append-drop}
 use Rattle.std.specs.Option.{option_map}
 use Rattle.std.specs.List.{list_all, prefix_len, starts_with}
-use Rattle.std.proofs.lemmas.Bool.{eqb-true, eqb-false}
+use Rattle.std.proofs.lemmas.Bool.{eqb-true}
 use Rattle.std.proofs.lemmas.List.Folds.{list_all-append}
 use Rattle.std.proofs.Math.Seq.{take-append_seam, drop-append_seam}
 use lib.Dec.{eqb}
-use lib.Pointwise.{pointwise}
 use Rattle.aseba_tree.specs.declared.token.TokenKind.{TokenKind}
 use Rattle.aseba_tree.specs.declared.token.Sign.{Sign}
-use Rattle.aseba_tree.specs.Tokens.{is_blank, is_digit, is_name_start, is_word_byte, spelled_in, symbols, is_word, is_lexeme, word_kind, kind_of, none_longer, closes, ends_line, Gap, blank, line_comment, closed_comment, Spelling, LexFault, bad_byte, bad_number, open_comment, Stuck, never_closed, no_number, no_lexeme}
+use Rattle.aseba_tree.specs.Tokens.{is_blank, is_word_byte, spelled_in, symbols, is_word, is_lexeme, word_kind, kind_of, none_longer, closes, ends_line, Gap, blank, line_comment, closed_comment, Spelling, LexFault, bad_byte, open_comment, Stuck, never_closed, no_number, no_lexeme}
 use Rattle.aseba_lexer.specs.Comments.{begins_with_star, line_len, block_len}
 use Rattle.aseba_lexer.specs.Found.{Found, gap_of, token_of, wrong, begins_word, word_rest, word_found, sign_or, one_found, two_found, sign_found, block_found, comment_found, word_at, found}
 use Rattle.aseba_lexer.proofs.Spelled.{first-true, second-true, absent, too-long, eqb-sym}

@@ -5,7 +5,7 @@ use Rattle.std.specs.List.{list_all, fold}
 use Rattle.std.proofs.lemmas.Bool.{leb-true, leb-false, le-leb, lt-leb, eqb-true, eqb-false}
 use Rattle.aseba_words.specs.Cell.{wrapped}
 use Rattle.aseba_tree.specs.Tokens.{is_within, is_digit, is_hex_digit, is_binary_digit, digit_value, number_in, cell_below, number_value, some_of}
-use Rattle.aseba_lexer.specs.Numbers.{digit, digits_value, are_digits, number_within, number, number_of}
+use Rattle.aseba_lexer.specs.Numbers.{digit, digits_value, are_digits, number, number_of}
 use Rattle.aseba_lexer.proofs.Spelled.{first-true, second-true}
 
 least : (low high b : ℕ) → is_within low high b ≡ true → low ≤ b

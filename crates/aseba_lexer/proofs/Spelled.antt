@@ -1,5 +1,5 @@
 -- Bytes that were compared one by one with those of a table.
-use Rattle.std.proofs.Common.{◌≡◌, ℕ, ◌<◌, ◌≤◌, nat_le, Bool, true, false, not, ◌&&◌, List, [], ◌∷◌, Option, Some, None, refl, ap, sym, ◌∙◌, subst, length, arith}
+use Rattle.std.proofs.Common.{◌≡◌, ℕ, ◌<◌, ◌≤◌, nat_le, Bool, true, false, not, ◌&&◌, List, [], ◌∷◌, None, refl, ap, sym, subst, length, arith}
 use Rattle.std.proofs.lemmas.Bool.{eqb-true, eqb-false, leb-true}
 use Rattle.aseba_tree.specs.Tokens.{spelled_in}
 use lib.Dec.{eqb}

@@ -1,7 +1,6 @@
 -- A number as the lexer reads it, digit by digit; it comes to the value of the spelling.
-use Rattle.std.specs.Prelude.{ℕ, ◌+◌, ◌-◌, ◌*◌, Bool, ◌&&◌, not, ◌==◌, nat_le, nat_lt, List, [], ◌∷◌, Option, Some, None, if◌then◌else◌, ℤ, pos, fold}
+use Rattle.std.specs.Prelude.{ℕ, ◌+◌, ◌-◌, ◌*◌, Bool, ◌&&◌, ◌==◌, nat_le, nat_lt, List, [], ◌∷◌, Option, Some, None, if◌then◌else◌}
 use Rattle.std.specs.List.{list_all}
-use Rattle.aseba_words.specs.Cell.{wrapped}
 use Rattle.aseba_tree.specs.Tokens.{is_digit, is_within}
 
 -- the value of a digit, of either case; 16 for what is none

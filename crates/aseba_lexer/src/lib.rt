@@ -14,3 +14,6 @@ mod words;
 pub use error::LexError;
 pub use lexer::lex;
 pub use places::end_of;
+
+#[cfg(test)]
+mod tests;

@@ -1,7 +1,7 @@
-use Rattle.std.proofs.Common.{◌≡◌, ◌≤◌, ◌∙◌, ℕ, List, [], length, take, drop, refl, sym, ap, subst, arith}
+use Rattle.std.proofs.Common.{◌≡◌, ◌≤◌, ◌∙◌, ℕ, List, length, take, drop, refl, sym, ap, subst, arith}
 use Rattle.std.proofs.lemmas.Grind.{common_steps}
 use Rattle.aseba_tree.specs.declared.pos.Pos.{Pos}
-use Rattle.aseba_tree.specs.Tokens.{first_place, behind, Cut, nothing, Tokens}
+use Rattle.aseba_tree.specs.Tokens.{first_place, behind, Cut, nothing}
 use Rattle.aseba_lexer.proofs.CutLaws.{is-decided, step-cuts, step-faults, all-cut}
 use Rattle.aseba_lexer.proofs.lexer.lex.Goals as goal
 

@@ -1,4 +1,4 @@
-use Rattle.std.proofs.Common.{◌≡◌, ◌+◌, ◌≤◌, length}
+use Rattle.std.proofs.Common.{◌≡◌, ◌≤◌, length}
 use Rattle.aseba_lexer.specs.Numbers as numbers
 use Rattle.aseba_lexer.proofs.numbers.number_within.Given as goal
 
