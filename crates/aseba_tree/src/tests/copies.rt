@@ -1,10 +1,7 @@
 use crate::tests::samples::*;
 use crate::{
-    Const, Core, CoreExpr, CoreForm, CorePart, CoreStmt, CoreTarget, Description, ForHead, Form,
-    Key, Local, Native, Param, Part, Project, Sign, Sized, Source, StmtForm, Token, TokenKind,
+    Const, CoreExpr, CoreForm, CoreTarget, Form, Key, Part, Sign, StmtForm, Token, TokenKind,
 };
-use aseba_words::{Binary, List, Unary};
-use sqlite_items::Boxed;
 use std::alloc::{AllocError, Global};
 use std::fmt::Debug;
 use std::test::Fail;
@@ -16,259 +13,157 @@ fn alike<T: Debug>(alloc: Global, value: &T, copy: &T) -> Result<bool, AllocErro
     Ok(value.as_str() == copy.as_str())
 }
 
+fn token_copies(alloc: Global, kind: TokenKind) -> Result<bool, Fail> {
+    let token = Token { at: at(8), kind };
+    let copy = token.copy(alloc)?;
+    Ok(alike(alloc, &token, &copy)?)
+}
+
 #[test]
 fn tokens(rt: HostRuntime) -> Result<(), Fail> {
     let alloc = rt.alloc();
-    let kinds = vec![in alloc;
-        TokenKind::Name(name(alloc, "speed")?),
-        TokenKind::Number(-9),
-        TokenKind::Key(Key::OnEvent.copy(alloc)?),
-        TokenKind::Sign(Sign::ShiftLeftAssign.copy(alloc)?),
-    ]?;
-    for kind in &kinds {
-        assert!(rt; alike(alloc, kind, &kind.copy(alloc)?)?);
-    }
-    let token = Token {
-        at: at(8).copy(alloc)?,
-        kind: TokenKind::Number(5),
-    };
-    assert!(rt; alike(alloc, &token, &token.copy(alloc)?)?);
+    assert!(rt; token_copies(alloc, TokenKind::Name(name(alloc)?))?);
+    assert!(rt; token_copies(alloc, TokenKind::Number(-9))?);
+    assert!(rt; token_copies(alloc, TokenKind::Key(Key::OnEvent))?);
+    assert!(rt; token_copies(alloc, TokenKind::Sign(Sign::ShiftLeftAssign))?);
+    assert_eq!(rt; at(3).copy(alloc)?, at(3));
+    assert_eq!(rt; Key::Else.copy(alloc)?, Key::Else);
+    assert_eq!(rt; Sign::Colon.copy(alloc)?, Sign::Colon);
     Ok(())
+}
+
+fn expr_copies(alloc: Global, form: Form) -> Result<bool, Fail> {
+    let whole = expr(form);
+    let copy = whole.copy(alloc)?;
+    Ok(alike(alloc, &whole, &copy)?)
 }
 
 #[test]
 fn expressions(rt: HostRuntime) -> Result<(), Fail> {
     let alloc = rt.alloc();
-    let forms = vec![in alloc;
-        Form::Number(-3),
-        Form::Whole(name(alloc, "led")?),
-        Form::Index(name(alloc, "led")?, boxed(alloc, 2)?),
-        Form::Range(name(alloc, "led")?, boxed(alloc, 2)?, boxed(alloc, 4)?),
-        Form::Items(alone(alloc, number(5))?),
-        minus(alloc)?,
-        quotient(alloc)?,
-    ]?;
-    for form in &forms {
-        assert!(rt; alike(alloc, form, &form.copy(alloc)?)?);
-    }
-    let whole = expr(minus(alloc)?);
-    assert!(rt; alike(alloc, &whole, &whole.copy(alloc)?)?);
+    assert!(rt; expr_copies(alloc, Form::Number(-3))?);
+    assert!(rt; expr_copies(alloc, whole(alloc)?)?);
+    assert!(rt; expr_copies(alloc, index(alloc)?)?);
+    assert!(rt; expr_copies(alloc, range(alloc)?)?);
+    assert!(rt; expr_copies(alloc, items(alloc)?)?);
+    assert!(rt; expr_copies(alloc, minus(alloc)?)?);
+    assert!(rt; expr_copies(alloc, quotient(alloc)?)?);
     Ok(())
+}
+
+fn target_copies(alloc: Global, part: Part) -> Result<bool, Fail> {
+    let target = target(alloc, part)?;
+    let copy = target.copy(alloc)?;
+    Ok(alike(alloc, &target, &copy)?)
 }
 
 #[test]
 fn targets(rt: HostRuntime) -> Result<(), Fail> {
     let alloc = rt.alloc();
-    let parts = vec![in alloc;
-        Part::All,
-        Part::At(number(3)),
-        Part::Span(number(1), number(2)),
-    ]?;
-    for part in &parts {
-        assert!(rt; alike(alloc, part, &part.copy(alloc)?)?);
-    }
-    let target = target(alloc, Part::At(number(3)))?;
-    assert!(rt; alike(alloc, target.get(), &target.get().copy(alloc)?)?);
+    assert!(rt; target_copies(alloc, Part::All)?);
+    assert!(rt; target_copies(alloc, Part::At(number(3)))?);
+    assert!(rt; target_copies(alloc, Part::Span(number(1), number(2)))?);
     Ok(())
 }
 
-#[test]
-fn assignments(rt: HostRuntime) -> Result<(), Fail> {
-    let alloc = rt.alloc();
-    let forms = vec![in alloc;
-        StmtForm::Set(target(alloc, Part::All)?, boxed(alloc, 2)?),
-        StmtForm::Change(target(alloc, Part::All)?, Binary::Mul, boxed(alloc, 2)?),
-        StmtForm::Step(target(alloc, Part::All)?, Binary::Sub),
-    ]?;
-    for form in &forms {
-        assert!(rt; alike(alloc, form, &form.copy(alloc)?)?);
-    }
-    Ok(())
+fn stmt_copies(alloc: Global, form: StmtForm) -> Result<bool, Fail> {
+    let stmt = stmt(form);
+    let copy = stmt.copy(alloc)?;
+    Ok(alike(alloc, &stmt, &copy)?)
 }
 
 #[test]
-fn blocks(rt: HostRuntime) -> Result<(), Fail> {
+fn statements(rt: HostRuntime) -> Result<(), Fail> {
     let alloc = rt.alloc();
-    let forms = vec![in alloc;
-        StmtForm::If(boxed(alloc, 1)?, body(alloc)?, List::new(alloc)),
-        StmtForm::If(boxed(alloc, 1)?, List::new(alloc), body(alloc)?),
-        StmtForm::When(boxed(alloc, 2)?, body(alloc)?),
-        StmtForm::While(boxed(alloc, 3)?, body(alloc)?),
-    ]?;
-    for form in &forms {
-        assert!(rt; alike(alloc, form, &form.copy(alloc)?)?);
-    }
-    Ok(())
-}
-
-#[test]
-fn loops(rt: HostRuntime) -> Result<(), Fail> {
-    let alloc = rt.alloc();
-    let head = ForHead {
-        name: name(alloc, "i")?,
-        first: number(1),
-        last: number(9),
-        step: Some(number(2)),
-    };
-    assert!(rt; alike(alloc, &head, &head.copy(alloc)?)?);
-    let form = StmtForm::For(Boxed::new(alloc, head)?, body(alloc)?);
-    assert!(rt; alike(alloc, &form, &form.copy(alloc)?)?);
-    Ok(())
-}
-
-#[test]
-fn calls(rt: HostRuntime) -> Result<(), Fail> {
-    let alloc = rt.alloc();
-    let forms = vec![in alloc;
-        StmtForm::Emit(name(alloc, "ping")?, None),
-        StmtForm::Emit(name(alloc, "pair")?, Some(boxed(alloc, 4)?)),
-        StmtForm::CallSub(name(alloc, "turn")?),
-        StmtForm::Call(name(alloc, "math.fill")?, alone(alloc, number(6))?),
-        StmtForm::Return,
-    ]?;
-    for form in &forms {
-        assert!(rt; alike(alloc, form, &form.copy(alloc)?)?);
-    }
-    let stmt = stmt(StmtForm::Return);
-    assert!(rt; alike(alloc, &stmt, &stmt.copy(alloc)?)?);
+    assert!(rt; stmt_copies(alloc, set(alloc)?)?);
+    assert!(rt; stmt_copies(alloc, change(alloc)?)?);
+    assert!(rt; stmt_copies(alloc, step(alloc)?)?);
+    assert!(rt; stmt_copies(alloc, branch(alloc)?)?);
+    assert!(rt; stmt_copies(alloc, when(alloc)?)?);
+    assert!(rt; stmt_copies(alloc, while_loop(alloc)?)?);
+    assert!(rt; stmt_copies(alloc, for_loop(alloc)?)?);
+    assert!(rt; stmt_copies(alloc, emit(alloc)?)?);
+    assert!(rt; stmt_copies(alloc, emit_value(alloc)?)?);
+    assert!(rt; stmt_copies(alloc, call_sub(alloc)?)?);
+    assert!(rt; stmt_copies(alloc, call(alloc)?)?);
+    assert!(rt; stmt_copies(alloc, StmtForm::Return)?);
     Ok(())
 }
 
 #[test]
 fn sources(rt: HostRuntime) -> Result<(), Fail> {
     let alloc = rt.alloc();
-    let decl = decl(alloc)?;
-    assert!(rt; alike(alloc, &decl, &decl.copy(alloc)?)?);
-    let handler = handler(alloc)?;
-    assert!(rt; alike(alloc, &handler, &handler.copy(alloc)?)?);
-    let source = Source {
-        vars: alone(alloc, decl)?,
-        init: body(alloc)?,
-        parts: alone(alloc, handler)?,
-    };
-    assert!(rt; alike(alloc, &source, &source.copy(alloc)?)?);
+    let source = source(alloc)?;
+    let copy = source.copy(alloc)?;
+    assert!(rt; alike(alloc, &source, &copy)?);
     Ok(())
+}
+
+fn core_expr_copies(alloc: Global, expr: CoreExpr) -> Result<bool, Fail> {
+    let copy = expr.copy(alloc)?;
+    Ok(alike(alloc, &expr, &copy)?)
 }
 
 #[test]
 fn core_expressions(rt: HostRuntime) -> Result<(), Fail> {
     let alloc = rt.alloc();
-    let exprs = vec![in alloc;
-        CoreExpr::Number(-3),
-        CoreExpr::Cell(4),
-        CoreExpr::Indirect(5, 6, core_boxed(alloc, 1)?),
-        CoreExpr::One(Unary::Abs, core_boxed(alloc, 1)?),
-        CoreExpr::Two(Binary::Sub, core_boxed(alloc, 1)?, core_boxed(alloc, 2)?),
-    ]?;
-    for expr in &exprs {
-        assert!(rt; alike(alloc, expr, &expr.copy(alloc)?)?);
-    }
-    let targets = vec![in alloc;
-        CoreTarget::Cell(4),
-        CoreTarget::Indirect(5, 6, CoreExpr::Number(1)),
-    ]?;
-    for target in &targets {
-        assert!(rt; alike(alloc, target, &target.copy(alloc)?)?);
-    }
+    assert!(rt; core_expr_copies(alloc, CoreExpr::Number(-3))?);
+    assert!(rt; core_expr_copies(alloc, CoreExpr::Cell(4))?);
+    assert!(rt; core_expr_copies(alloc, core_indirect(alloc)?)?);
+    assert!(rt; core_expr_copies(alloc, core_one(alloc)?)?);
+    assert!(rt; core_expr_copies(alloc, core_two(alloc)?)?);
+    let target = CoreTarget::Cell(9);
+    let copy = target.copy(alloc)?;
+    assert!(rt; alike(alloc, &target, &copy)?);
     Ok(())
+}
+
+fn core_stmt_copies(alloc: Global, form: CoreForm) -> Result<bool, Fail> {
+    let stmt = core_stmt(form);
+    let copy = stmt.copy(alloc)?;
+    Ok(alike(alloc, &stmt, &copy)?)
 }
 
 #[test]
 fn core_statements(rt: HostRuntime) -> Result<(), Fail> {
     let alloc = rt.alloc();
-    let target = Boxed::new(alloc, CoreTarget::Cell(3))?;
-    let forms = vec![in alloc;
-        CoreForm::Store(target, core_boxed(alloc, 8)?),
-        CoreForm::If(core_boxed(alloc, 1)?, core_body(alloc)?, List::new(alloc)),
-        CoreForm::If(core_boxed(alloc, 1)?, List::new(alloc), core_body(alloc)?),
-        CoreForm::When(core_boxed(alloc, 2)?, core_body(alloc)?),
-        CoreForm::While(core_boxed(alloc, 3)?, core_body(alloc)?),
-        CoreForm::Emit(1, 2, 3),
-        CoreForm::CallSub(4),
-        CoreForm::Call(5, List::from_slice(alloc, &[6, 7])?),
-        CoreForm::Return,
-    ]?;
-    for form in &forms {
-        assert!(rt; alike(alloc, form, &form.copy(alloc)?)?);
-    }
+    assert!(rt; core_stmt_copies(alloc, core_store(alloc)?)?);
+    assert!(rt; core_stmt_copies(alloc, core_branch(alloc)?)?);
+    assert!(rt; core_stmt_copies(alloc, core_when(alloc)?)?);
+    assert!(rt; core_stmt_copies(alloc, core_while(alloc)?)?);
+    assert!(rt; core_stmt_copies(alloc, CoreForm::Emit(1, 2, 3))?);
+    assert!(rt; core_stmt_copies(alloc, CoreForm::CallSub(4))?);
+    assert!(rt; core_stmt_copies(alloc, core_call(alloc)?)?);
     Ok(())
 }
 
 #[test]
 fn cores(rt: HostRuntime) -> Result<(), Fail> {
     let alloc = rt.alloc();
-    let stmt = CoreStmt {
-        line: 9,
-        form: CoreForm::CallSub(4),
-    };
-    assert!(rt; alike(alloc, &stmt, &stmt.copy(alloc)?)?);
-    let part = CorePart {
-        line: 3,
-        event: Some(2),
-        body: core_body(alloc)?,
-    };
-    assert!(rt; alike(alloc, &part, &part.copy(alloc)?)?);
-    let core_tree = Core {
-        init: alone(alloc, stmt)?,
-        parts: alone(alloc, part)?,
-        cells: 34,
-        room: 1,
-        size: 12,
-        depth: 2,
-    };
-    assert!(rt; alike(alloc, &core_tree, &core_tree.copy(alloc)?)?);
+    let tree = core_tree(alloc)?;
+    let copy = tree.copy(alloc)?;
+    assert!(rt; alike(alloc, &tree, &copy)?);
     Ok(())
 }
 
 #[test]
 fn projects(rt: HostRuntime) -> Result<(), Fail> {
     let alloc = rt.alloc();
-    let param = Param {
-        size: -1,
-        name: name(alloc, "dest")?,
-    };
-    assert!(rt; alike(alloc, &param, &param.copy(alloc)?)?);
-    let native = Native {
-        name: name(alloc, "math.copy")?,
-        text: name(alloc, "copy")?,
-        params: alone(alloc, param)?,
-    };
-    assert!(rt; alike(alloc, &native, &native.copy(alloc)?)?);
-    let local = Local {
-        name: name(alloc, "button")?,
-        text: name(alloc, "it was pressed")?,
-    };
-    assert!(rt; alike(alloc, &local, &local.copy(alloc)?)?);
-    let variable = Sized {
-        name: name(alloc, "_id")?,
-        size: 1,
-    };
-    assert!(rt; alike(alloc, &variable, &variable.copy(alloc)?)?);
-    let node = Description {
-        name: name(alloc, "sim")?,
-        code: 2048,
-        stack: 64,
-        cells: 1024,
-        variables: alone(alloc, variable)?,
-        locals: alone(alloc, local)?,
-        natives: alone(alloc, native)?,
-    };
-    assert!(rt; alike(alloc, &node, &node.copy(alloc)?)?);
-    let constant = Const {
-        name: name(alloc, "most")?,
-        value: -7,
-    };
-    assert!(rt; alike(alloc, &constant, &constant.copy(alloc)?)?);
-    let event = Sized {
-        name: name(alloc, "pair")?,
-        size: 2,
-    };
-    let project = Project {
-        node,
-        id: 1,
-        events: alone(alloc, event)?,
-        consts: alone(alloc, constant)?,
-    };
-    assert!(rt; alike(alloc, &project, &project.copy(alloc)?)?);
+    let mut called = native(alloc, 9, 4)?;
+    called.params = alone(alloc, param(alloc, 4, -1)?)?;
+    let mut whole = project(alloc)?;
+    whole.node.natives = alone(alloc, called)?;
+    whole.node.locals = alone(alloc, local(alloc, 6, 14)?)?;
+    whole.node.variables = alone(alloc, sized(alloc, 3, 1)?)?;
+    whole.events = alone(alloc, sized(alloc, 4, 2)?)?;
+    whole.consts = alone(
+        alloc,
+        Const {
+            name: name(alloc)?,
+            value: -7,
+        },
+    )?;
+    let copy = whole.copy(alloc)?;
+    assert!(rt; alike(alloc, &whole, &copy)?);
     Ok(())
 }

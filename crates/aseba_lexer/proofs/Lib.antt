@@ -1,0 +1,5 @@
+pub mod CutLaws
+pub mod FoundLaws
+pub mod NumberLaws
+pub mod NumberValue
+pub mod Spelled

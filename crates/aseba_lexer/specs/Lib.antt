@@ -1,0 +1,4 @@
+pub mod Comments
+pub mod Found
+pub mod Lexed
+pub mod Numbers

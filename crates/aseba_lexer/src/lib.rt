@@ -1,0 +1,19 @@
+//! The text of a source as tokens.
+#![tactic(auto)]
+
+mod bytes;
+mod comments;
+mod error;
+mod keys;
+mod lexer;
+mod numbers;
+mod places;
+mod signs;
+mod words;
+
+pub use error::LexError;
+pub use lexer::lex;
+pub use places::end_of;
+
+#[cfg(test)]
+mod tests;
