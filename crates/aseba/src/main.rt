@@ -1,11 +1,10 @@
 //! The program `aseba`: the real files, streams and clock, handed to the tools.
 #![tactic(auto)]
 
-use std::process::ExitCode;
-use std::{env, io};
-
 use aseba_edge::{NoDialer, SystemClock, SystemFiles, WriterSink};
 use aseba_tools::run;
+use std::process::ExitCode;
+use std::{env, io};
 
 fn main(rt: HostRuntime) -> ExitCode {
     let alloc = rt.alloc();
