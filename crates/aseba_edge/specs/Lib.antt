@@ -8,3 +8,4 @@ pub mod MemorySink
 pub mod Plan
 pub mod Rising
 pub mod Sink
+pub mod Tape

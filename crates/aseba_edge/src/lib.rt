@@ -18,6 +18,7 @@ mod system_clock;
 mod system_files;
 #[cfg(test)]
 mod tests;
+mod tape;
 mod writer_sink;
 
 pub use clock::Clock;
