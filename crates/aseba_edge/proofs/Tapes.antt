@@ -57,10 +57,10 @@ begun {size_of_bytes} {at} {given = given} is tape = subst (IsTape size_of_bytes
 -- a tape behind a read
 pub read-IsTape : (size_of_bytes at size count : ℕ) (given later : List ℕ) → count ≤ size → IsTape size_of_bytes given at (size ∷ later) → IsTape size_of_bytes (given ++ count ∷ []) (at + count) (pending (size - count) later)
 read-IsTape size_of_bytes at size count given later within tape = record {
-    given_so_far = omega (arith, bytes_in-more given count, tape.given_so_far);
-    whole = omega (arith, bytes_in-pending (size - count) later, tape.whole);
-    not_empty = pending-NoneEmpty (size - count) later tape.not_empty.1
-  }
+  given_so_far = omega (arith, bytes_in-more given count, tape.given_so_far);
+  whole = omega (arith, bytes_in-pending (size - count) later, tape.whole);
+  not_empty = pending-NoneEmpty (size - count) later tape.not_empty.1;
+}
 
 -- the view of a tape behind a read
 pub read-view : (bytes given given_then : List ℕ) (at size count : ℕ) (later left : List ℕ) (room : ℕ) (has_ended : Bool) (old : Input (List ℕ)) → given_then ≡ given ++ count ∷ [] → count ≡ min size room → size ∷ later ≡ left
@@ -89,13 +89,13 @@ NoneEmpty-more (first ∷ later) size all some = (all.0, NoneEmpty-more later si
 -- a piece laid behind the others
 laid-piece : (bytes sizes piece : List ℕ) (pieces : List (List ℕ)) → 0 < length piece → Laid bytes sizes pieces → Laid (bytes ++ piece) (sizes ++ length piece ∷ []) (pieces ++ piece ∷ [])
 laid-piece bytes sizes piece pieces some laid = record {
-    pieces_are =
-        pieces-more sizes (length piece) (bytes ++ piece)
-        ∙ ap (λ l. l ++ take (length piece) (drop (bytes_in sizes) (bytes ++ piece)) ∷ []) (pieces_of-behind sizes bytes piece (omega (arith, laid.whole)) ∙ laid.pieces_are)
-        ∙ ap (λ p. pieces ++ p ∷ []) (grind (arith, common_steps, laid.whole));
-    whole = omega (arith, bytes_in-more sizes (length piece), length-append bytes piece, laid.whole);
-    not_empty = NoneEmpty-more sizes (length piece) laid.not_empty some
-  }
+  pieces_are =
+      pieces-more sizes (length piece) (bytes ++ piece)
+      ∙ ap (λ l. l ++ take (length piece) (drop (bytes_in sizes) (bytes ++ piece)) ∷ []) (pieces_of-behind sizes bytes piece (omega (arith, laid.whole)) ∙ laid.pieces_are)
+      ∙ ap (λ p. pieces ++ p ∷ []) (grind (arith, common_steps, laid.whole));
+  whole = omega (arith, bytes_in-more sizes (length piece), length-append bytes piece, laid.whole);
+  not_empty = NoneEmpty-more sizes (length piece) laid.not_empty some;
+}
 
 pub laid-more : (bytes sizes piece : List ℕ) (pieces : List (List ℕ)) → Laid bytes sizes pieces → Laid (bytes ++ piece) (sizes ++ size_of piece) (pieces ++ full (piece ∷ []))
 laid-more bytes sizes [] pieces laid = subst (λ (b : List ℕ). Laid b (sizes ++ []) (pieces ++ [])) (sym (append-nil bytes))
@@ -122,8 +122,8 @@ pub laid-step : (bytes sizes bytes_then sizes_then piece item : List ℕ) (piece
     → bytes_then ≡ bytes ++ piece → sizes_then ≡ sizes ++ size_of piece → Laid bytes sizes (full (take index pieces)) → Laid bytes_then sizes_then (full (take (index + 1) pieces))
 laid-step bytes sizes bytes_then sizes_then piece item pieces index below is_item is_piece is_bytes is_sizes laid =
     let more : full (take index pieces) ++ full (piece ∷ []) ≡ full (take (index + 1) pieces) =
-        ap (λ p. full (take index pieces) ++ full (p ∷ [])) (is_piece ∙ is_item) ∙ sym (full-append (take index pieces) (get_or pieces index item ∷ []))
-        ∙ ap full (sym (take_more pieces index item below)) in
+    ap (λ p. full (take index pieces) ++ full (p ∷ [])) (is_piece ∙ is_item) ∙ sym (full-append (take index pieces) (get_or pieces index item ∷ []))
+    ∙ ap full (sym (take_more pieces index item below)) in
     subst (λ (b : List ℕ). Laid b sizes_then (full (take (index + 1) pieces))) (sym is_bytes)
     (subst (λ (s : List ℕ). Laid (bytes ++ piece) s (full (take (index + 1) pieces))) (sym is_sizes)
     (subst (Laid (bytes ++ piece) (sizes ++ size_of piece)) more (laid-more bytes sizes piece (full (take index pieces)) laid)))

@@ -19,6 +19,11 @@ IsUnread input = (input.given ≡ []) × (input.has_ended ≡ false)
 abbrev pub bytes_given : Input (List ℕ) → List ℕ
 bytes_given input = flat_map (λ piece. piece) input.given
 
+-- whether nothing is left
+abbrev pub is_empty : {Answer : Type 0} → List Answer → Bool
+is_empty [] = true
+is_empty (next ∷ later) = false
+
 -- what is left behind an answer of which there is room for the first bytes: its rest is the next answer
 abbrev pub left_behind : ℕ → List ℕ → List (List ℕ) → List (List ℕ)
 left_behind room answer later = if nat_le (length answer) room then later else drop room answer ∷ later

@@ -6,9 +6,12 @@
 mod clock;
 mod dialer;
 mod files;
+mod gate;
 mod link;
 mod memory_clock;
 mod memory_files;
+mod memory_in;
+mod memory_out;
 mod memory_sink;
 mod no_dialer;
 mod plan;
@@ -16,9 +19,9 @@ mod poll;
 mod sink;
 mod system_clock;
 mod system_files;
+mod tape;
 #[cfg(test)]
 mod tests;
-mod tape;
 mod writer_sink;
 
 pub use clock::Clock;
@@ -27,6 +30,8 @@ pub use files::{FileAnswer, Files};
 pub use link::{LinkFault, LinkIn, LinkOut};
 pub use memory_clock::MemoryClock;
 pub use memory_files::{MemoryFile, MemoryFiles};
+pub use memory_in::MemoryIn;
+pub use memory_out::MemoryOut;
 pub use memory_sink::MemorySink;
 pub use no_dialer::{NoDialer, NoLink};
 pub use poll::{LinkPoll, PollAnswer, Polled};

@@ -1,5 +1,5 @@
 ghost use Rattle.std.specs.Prelude.{◌≡◌, ◌<◌, ◌≤◌, [], ◌∷◌, ◌++◌, IfNone, IfOk, IfSome, OnOk, drop, false, length, take};
-ghost use Rattle.aseba_edge.specs.Link.{after_read, next_bytes};
+ghost use Rattle.aseba_edge.specs.Link.{after_read, is_empty, next_bytes};
 ghost use Rattle.aseba_edge.specs.Tape.{Laid, full, pending, size_of};
 
 use aseba_words::{List, Mem};
@@ -91,6 +91,16 @@ impl Tape {
             rest: 0,
             has_ended: false,
         })
+    }
+
+    /// Whether nothing is left.
+    pub fn is_at_end(&self) -> bool
+        ensures { result ≡ is_empty self.now.left }
+    {
+        match next_piece(self.sizes.as_slice(), self.next, self.rest) {
+            Some(_) => false,
+            None => true,
+        }
     }
 
     /// Gives the first bytes of the next piece, as many as there is room for, and answers how many

@@ -1,6 +1,5 @@
-use Rattle.std.proofs.Common.{◌≡◌, ◌<◌, ◌≤◌, ◌∷◌, ◌++◌, [], ◌∙◌, drop, length, ℕ, List, ◌+◌, ◌-◌, sym, ap, arith, vec_len, vec_capacity, subst, min}
-use Rattle.aseba_edge.specs.Tape.{IsTape, pending, bytes_in, input_of}
-use Rattle.aseba_edge.specs.Link.{after_read}
+use Rattle.std.proofs.Common.{◌≡◌, ◌<◌, ◌≤◌, ◌∷◌, ◌++◌, [], drop, length, ℕ, List, ◌+◌, ◌-◌, sym, arith, vec_len, vec_capacity, subst}
+use Rattle.aseba_edge.specs.Tape.{IsTape, pending}
 use Rattle.aseba_edge.proofs.Tapes.{begun, read-IsTape, read-view}
 use Rattle.aseba_edge.proofs.tape.Tape.read.Goals as goal
 
@@ -18,9 +17,11 @@ invariant_of-self-2 c =
     let gave : c.push.new.self.items ≡ c.self.inside.given.items ++ c.min-count.result ∷ [] = grind (arith, c.push.ensures.items) in
     let pushed : vec_len c.push.new.self ≡ vec_len c.self.inside.given + 1 = grind (arith, c.push.ensures.len) in
     let room : vec_len c.push.new.self + (vec_len c.self.inside.bytes - (c.self.inside.at + c.min-count.result)) ≤ vec_capacity c.push.new.self =
-        omega (arith, pushed, within, c.push.ensures.capacity, c.self.invariant.0, tape.whole, tape.not_empty.0, c.min-count.ensures, c.requires) in
-    (room, subst (λ (g : List ℕ). IsTape (length c.self.inside.bytes.items) g (c.self.inside.at + c.min-count.result) (pending (c.in-Some.size - c.min-count.result) (drop c.in-Some.next c.self.inside.sizes.items))) (sym gave)
-        (read-IsTape (length c.self.inside.bytes.items) c.self.inside.at c.in-Some.size c.min-count.result c.self.inside.given.items (drop c.in-Some.next c.self.inside.sizes.items) within tape))
+    omega (arith, pushed, within, c.push.ensures.capacity, c.self.invariant.0, tape.whole, tape.not_empty.0, c.min-count.ensures, c.requires) in (
+      room,
+      subst (λ (g : List ℕ). IsTape (length c.self.inside.bytes.items) g (c.self.inside.at + c.min-count.result) (pending (c.in-Some.size - c.min-count.result) (drop c.in-Some.next c.self.inside.sizes.items))) (sym gave)
+          (read-IsTape (length c.self.inside.bytes.items) c.self.inside.at c.in-Some.size c.min-count.result c.self.inside.given.items (drop c.in-Some.next c.self.inside.sizes.items) within tape),
+    )
 
 pub returns-clause-end : goal.returns-clause-end
 returns-clause-end c none =

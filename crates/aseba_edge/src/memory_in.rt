@@ -1,0 +1,95 @@
+ghost use Rattle.std.specs.Prelude.{◌≡◌, ◌<◌, ◌≤◌, IfOk, IsErr, IsOk, OnErr, OnOk, Some, None, [], false, true, is_err, length, refl, take};
+ghost use Rattle.aseba_edge.specs.Counts.{Counts};
+ghost use Rattle.aseba_edge.specs.Link.{after_read, is_empty, next_bytes};
+ghost use Rattle.aseba_edge.specs.Plan.{is_named, next_call};
+ghost use Rattle.aseba_edge.specs.Tape.{full};
+
+use crate::gate::Gate;
+use crate::link::{LinkFault, LinkIn};
+use crate::plan::Plan;
+use crate::tape::Tape;
+use aseba_words::{List, Mem};
+use std::alloc::Global;
+
+/// The input of a link in memory. It gives its pieces one by one. Given reads fail, the first being
+/// number 1. One with a gate waits at the end of its bytes until its output has taken a number of
+/// bytes, and fails where that doesn't come.
+#[derive(Drop)]
+pub struct MemoryIn {
+    tape: Tape,
+    mark: u64,
+    plan: Plan,
+    gate: Option<Gate>,
+}
+
+impl MemoryIn {
+    // An input of these pieces, without those that are empty.
+    pub(crate) fn new(
+        alloc: Global,
+        mark: u64,
+        pieces: &[List<u8>],
+        failing: List<u64>,
+        gate: Option<Gate>,
+    ) -> Result<MemoryIn, Mem>
+        ensures tape { IfOk result (λ input. input.tape ≡
+            record { given = []; left = full pieces.now; has_ended = false }) }
+        ensures mark { IfOk result (λ input. input.mark ≡ mark) }
+        ensures plan { IfOk result (λ input.
+            input.plan ≡ record { failing = failing; calls = 0; faults = 0 }) }
+    {
+        Ok(MemoryIn {
+            tape: Tape::new(alloc, pieces)?,
+            mark,
+            plan: Plan::new(failing),
+            gate,
+        })
+    }
+
+    // Whether nothing keeps the input from its end.
+    fn is_open(&self) -> bool
+        ensures free { self.now.gate ≡ None → result ≡ true }
+        ensures before { is_empty self.now.tape.left ≡ false → result ≡ true }
+    {
+        match &self.gate {
+            Some(gate) => !self.tape.is_at_end() || gate.wait(),
+            None => true,
+        }
+    }
+}
+
+impl LinkIn for MemoryIn {
+    ghost contents = { λ input. Some input.tape };
+
+    ghost mark = { λ input. Some input.mark };
+
+    ghost faults = { λ input. input.plan.faults };
+
+    ghost tells_mark = { λ _. refl };
+
+    fn read(&mut self, buf: &mut [u8]) -> Result<usize, LinkFault>
+        ensures fits { IfOk result (λ count. count ≤ length buf.old) }
+        ensures bytes { IfOk result (λ count.
+            take count buf.new ≡ next_bytes (length buf.old) self.old.tape.left) }
+        ensures end { IfOk result (λ count.
+            count ≡ 0 → 0 < length buf.old → self.old.tape.left ≡ []) }
+        ensures given { OnOk result (self.new.tape ≡ after_read (length buf.old) self.old.tape) }
+        ensures kept { OnErr result (self.new.tape ≡ self.old.tape) }
+        ensures mark { self.new.mark ≡ self.old.mark }
+        ensures count { Counts (is_err result) self.old.plan.faults self.new.plan.faults }
+        ensures named { is_named self.old.plan.failing (next_call self.old.plan.calls) ≡ true →
+            IsErr result }
+        ensures free { is_named self.old.plan.failing (next_call self.old.plan.calls) ≡ false →
+            self.old.gate ≡ None → IsOk result }
+        ensures before { is_named self.old.plan.failing (next_call self.old.plan.calls) ≡ false →
+            is_empty self.old.tape.left ≡ false → IsOk result }
+    {
+        if self.plan.begin() || !self.is_open() {
+            self.plan.fail();
+            return Err(LinkFault);
+        }
+        if buf.is_empty() {
+            return Ok(0);
+        }
+        Ok(self.tape.read(buf))
+    }
+}

@@ -1,0 +1,77 @@
+ghost use Rattle.std.specs.Prelude.{◌≡◌, IfErr, IfOk, OnOk, Some, [], is_err, refl};
+ghost use Rattle.aseba_edge.specs.Counts.{Counts};
+ghost use Rattle.aseba_edge.specs.MemorySink.{put_answer};
+ghost use Rattle.aseba_edge.specs.Sink.{Took, TookFewer};
+
+use crate::gate::Gate;
+use crate::link::LinkOut;
+use crate::memory_sink::MemorySink;
+use crate::sink::{PutFault, Sink};
+use aseba_words::{List, Mem};
+use std::alloc::Global;
+
+/// The output of a link in memory. It takes what a sink in memory takes, and tells the gate of its
+/// input, if that has one.
+#[derive(Drop)]
+pub struct MemoryOut {
+    sink: MemorySink,
+    mark: u64,
+    gate: Option<Gate>,
+}
+
+impl MemoryOut {
+    pub(crate) fn new(
+        alloc: Global,
+        mark: u64,
+        room: usize,
+        failing: List<u64>,
+        gate: Option<Gate>,
+    ) -> Result<MemoryOut, Mem>
+        ensures empty { IfOk result (λ output. output.sink.bytes.items ≡ []) }
+        ensures room { IfOk result (λ output. output.sink.room ≡ room) }
+        ensures mark { IfOk result (λ output. output.mark ≡ mark) }
+        ensures plan { IfOk result (λ output.
+            output.sink.plan ≡ record { failing = failing; calls = 0; faults = 0 }) }
+    {
+        Ok(MemoryOut {
+            sink: MemorySink::new(alloc, room, failing)?,
+            mark,
+            gate,
+        })
+    }
+
+    /// The bytes taken so far.
+    pub fn bytes(&self) -> &[u8]
+        ensures { result.now ≡ self.now.sink.bytes.items }
+    {
+        self.sink.bytes()
+    }
+}
+
+impl LinkOut for MemoryOut {
+    ghost taken = { λ output. Some output.sink.bytes.items };
+
+    ghost mark = { λ output. Some output.mark };
+
+    ghost faults = { λ output. output.sink.plan.faults };
+
+    ghost tells_mark = { λ _. refl };
+
+    fn put(&mut self, piece: &[u8]) -> Result<(), PutFault>
+        ensures whole { OnOk result
+            (Took (Some self.old.sink.bytes.items) piece.now (Some self.new.sink.bytes.items)) }
+        ensures part { IfErr result (λ fault. TookFewer fault.taken
+            (Some self.old.sink.bytes.items) piece.now (Some self.new.sink.bytes.items)) }
+        ensures mark { self.new.mark ≡ self.old.mark }
+        ensures count { Counts (is_err result) self.old.sink.plan.faults self.new.sink.plan.faults }
+        ensures answer { result ≡ put_answer self.old.sink piece.now }
+    {
+        let answer = self.sink.put(piece);
+        if let Some(gate) = &self.gate {
+            gate.tell(self.sink.bytes().len() as u64);
+        }
+        answer
+    }
+
+    fn hang_up(&mut self) {}
+}
