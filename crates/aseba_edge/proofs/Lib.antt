@@ -1,3 +1,4 @@
+pub mod PollTapes
 pub mod Puts
 pub mod RisingLemmas
 pub mod Tapes

@@ -6,6 +6,7 @@ pub mod Link
 pub mod MemoryFiles
 pub mod MemorySink
 pub mod Plan
+pub mod PollTape
 pub mod Rising
 pub mod Sink
 pub mod Tape

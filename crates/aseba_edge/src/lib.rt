@@ -16,12 +16,14 @@ mod memory_sink;
 mod no_dialer;
 mod plan;
 mod poll;
+mod poll_tape;
 mod sink;
 mod system_clock;
 mod system_files;
 mod tape;
 #[cfg(test)]
 mod tests;
+mod turn;
 mod writer_sink;
 
 pub use clock::Clock;
