@@ -62,9 +62,9 @@ piece-step bytes given at size later room has_ended so_far whole some =
     let fits : size ≤ length rest = omega (arith, length-drop at bytes) in
     let part : take (min size room) (drop (bytes_in given) bytes) ≡ take room (take size rest) = grind (arith, common_steps) in
     let gave : answers_of (given ++ Piece (min size room) ∷ []) bytes ≡ answers_of given bytes ++ Bytes (take room (take size rest)) ∷ [] =
-        answers-piece given (min size room) bytes ∙ ap (λ t. answers_of given bytes ++ Bytes t ∷ []) part in
+    answers-piece given (min size room) bytes ∙ ap (λ t. answers_of given bytes ++ Bytes t ∷ []) part in
     let left : answers_of (pending (size - min size room) later) (drop (at + min size room) bytes) ≡ left_behind_poll room (Bytes (take size rest)) (answers_of later (drop size rest)) =
-        ap (answers_of (pending (size - min size room) later)) (sym (drop-drop (min size room) at bytes)) ∙ answers-behind size later room rest fits some in
+    ap (answers_of (pending (size - min size room) later)) (sym (drop-drop (min size room) at bytes)) ∙ answers-behind size later room rest fits some in
     ap (λ (g : List PollAnswer). record { given = g; left = answers_of (pending (size - min size room) later) (drop (at + min size room) bytes); has_ended = has_ended }) gave
     ∙ ap (λ (l : List PollAnswer). record { given = answers_of given bytes ++ Bytes (take room (take size rest)) ∷ []; left = l; has_ended = has_ended }) left
 
@@ -84,23 +84,27 @@ pub piece-holds : (length_of_bytes at size count : ℕ) (given given_then later 
     → len_then ≡ len + 1 → capacity ≤ capacity_then → len + most_answers left ≤ capacity → IsTape length_of_bytes given at left
     → (len_then + most_answers (pending (size - count) later) ≤ capacity_then) × IsTape length_of_bytes given_then (at + count) (pending (size - count) later)
 piece-holds length_of_bytes at size count given given_then later left len len_then capacity capacity_then is within some gave longer more room whole =
-    let tape = begun is whole in
-    (omega (arith, ap most_answers is, most-pending (size - count) later), subst (λ (g : List Turn). IsTape length_of_bytes g (at + count) (pending (size - count) later)) (sym gave) record {
+    let tape = begun is whole in (
+      omega (arith, ap most_answers is, most-pending (size - count) later),
+      subst (λ (g : List Turn). IsTape length_of_bytes g (at + count) (pending (size - count) later)) (sym gave) record {
         given_so_far = omega (arith, bytes_in-piece given count, tape.given_so_far);
         whole = omega (arith, bytes_in-pending (size - count) later, tape.whole);
-        not_empty = pending-NoneEmpty (size - count) later tape.not_empty.1
-      })
+        not_empty = pending-NoneEmpty (size - count) later tape.not_empty.1;
+      },
+    )
 
 pub wait-holds : (length_of_bytes at : ℕ) (given given_then later left : List Turn) (len len_then capacity capacity_then : ℕ) → Wait ∷ later ≡ left → given_then ≡ given ++ Wait ∷ []
     → len_then ≡ len + 1 → capacity ≤ capacity_then → len + most_answers left ≤ capacity → IsTape length_of_bytes given at left
     → (len_then + most_answers later ≤ capacity_then) × IsTape length_of_bytes given_then at later
 wait-holds length_of_bytes at given given_then later left len len_then capacity capacity_then is gave longer more room whole =
-    let tape = begun is whole in
-    (omega (arith, ap most_answers is), subst (λ (g : List Turn). IsTape length_of_bytes g at later) (sym gave) record {
+    let tape = begun is whole in (
+      omega (arith, ap most_answers is),
+      subst (λ (g : List Turn). IsTape length_of_bytes g at later) (sym gave) record {
         given_so_far = bytes_in-wait given ∙ tape.given_so_far;
         whole = tape.whole;
-        not_empty = tape.not_empty
-      })
+        not_empty = tape.not_empty;
+      },
+    )
 
 -- the view of a tape behind a poll
 pub piece-view : (bytes : List ℕ) (given given_then : List Turn) (at size count : ℕ) (later left : List Turn) (room : ℕ) (has_ended : Bool) (old : Input PollAnswer) → given_then ≡ given ++ Piece count ∷ [] → count ≡ min size room
@@ -147,23 +151,23 @@ NoneEmpty-wait (Wait ∷ later) all = NoneEmpty-wait later all
 -- an answer laid behind the others
 laid-piece : (bytes piece : List ℕ) (turns : List Turn) (answers : List PollAnswer) → 0 < length piece → Laid bytes turns answers → Laid (bytes ++ piece) (turns ++ Piece (length piece) ∷ []) (answers ++ Bytes piece ∷ [])
 laid-piece bytes piece turns answers some laid = record {
-    answers_are =
-        answers-piece turns (length piece) (bytes ++ piece)
-        ∙ ap (λ l. l ++ Bytes (take (length piece) (drop (bytes_in turns) (bytes ++ piece))) ∷ []) (answers-more turns bytes piece (omega (arith, laid.whole)) ∙ laid.answers_are)
-        ∙ ap (λ p. answers ++ Bytes p ∷ []) (grind (arith, common_steps, laid.whole));
-    whole = omega (arith, bytes_in-piece turns (length piece), length-append bytes piece, laid.whole);
-    not_empty = NoneEmpty-piece turns (length piece) laid.not_empty some
-  }
+  answers_are =
+      answers-piece turns (length piece) (bytes ++ piece)
+      ∙ ap (λ l. l ++ Bytes (take (length piece) (drop (bytes_in turns) (bytes ++ piece))) ∷ []) (answers-more turns bytes piece (omega (arith, laid.whole)) ∙ laid.answers_are)
+      ∙ ap (λ p. answers ++ Bytes p ∷ []) (grind (arith, common_steps, laid.whole));
+  whole = omega (arith, bytes_in-piece turns (length piece), length-append bytes piece, laid.whole);
+  not_empty = NoneEmpty-piece turns (length piece) laid.not_empty some;
+}
 
 laid-more : (bytes : List ℕ) (turns : List Turn) (answer : PollAnswer) (answers : List PollAnswer) → Laid bytes turns answers → Laid (bytes ++ bytes_of answer) (turns ++ turn_of answer) (answers ++ full (answer ∷ []))
 laid-more bytes turns (Bytes []) answers laid = subst (λ (b : List ℕ). Laid b (turns ++ []) (answers ++ [])) (sym (append-nil bytes))
     (subst (λ (s : List Turn). Laid bytes s (answers ++ [])) (sym (append-nil turns)) (subst (Laid bytes turns) (sym (append-nil answers)) laid))
 laid-more bytes turns (Bytes (byte ∷ more)) answers laid = laid-piece bytes (byte ∷ more) turns answers (omega arith) laid
 laid-more bytes turns Later answers laid = subst (λ (b : List ℕ). Laid b (turns ++ Wait ∷ []) (answers ++ Later ∷ [])) (sym (append-nil bytes)) record {
-    answers_are = answers-wait turns bytes ∙ ap (λ l. l ++ Later ∷ []) laid.answers_are;
-    whole = bytes_in-wait turns ∙ laid.whole;
-    not_empty = NoneEmpty-wait turns laid.not_empty
-  }
+  answers_are = answers-wait turns bytes ∙ ap (λ l. l ++ Later ∷ []) laid.answers_are;
+  whole = bytes_in-wait turns ∙ laid.whole;
+  not_empty = NoneEmpty-wait turns laid.not_empty;
+}
 
 -- the turn of an empty piece, and of one that isn't
 pub turn_of_empty : (piece : List ℕ) → length piece ≡ 0 → turn_of (Bytes piece) ≡ []
@@ -186,8 +190,25 @@ pub laid-step : (bytes bytes_then : List ℕ) (turns turns_then : List Turn) (it
     → bytes_then ≡ bytes ++ bytes_of item → turns_then ≡ turns ++ turn_of item → Laid bytes turns (full (take index answers)) → Laid bytes_then turns_then (full (take (index + 1) answers))
 laid-step bytes bytes_then turns turns_then item answers index below is_item is_bytes is_turns laid =
     let more : full (take index answers) ++ full (item ∷ []) ≡ full (take (index + 1) answers) =
-        ap (λ p. full (take index answers) ++ full (p ∷ [])) is_item ∙ sym (full-append (take index answers) (get_or answers index item ∷ []))
-        ∙ ap full (sym (take_more answers index item below)) in
+    ap (λ p. full (take index answers) ++ full (p ∷ [])) is_item ∙ sym (full-append (take index answers) (get_or answers index item ∷ []))
+    ∙ ap full (sym (take_more answers index item below)) in
     subst (λ (b : List ℕ). Laid b turns_then (full (take (index + 1) answers))) (sym is_bytes)
     (subst (λ (s : List Turn). Laid (bytes ++ bytes_of item) s (full (take (index + 1) answers))) (sym is_turns)
     (subst (Laid (bytes ++ bytes_of item) (turns ++ turn_of item)) more (laid-more bytes turns item (full (take index answers)) laid)))
+
+-- a tape that has given nothing
+most-within : (turns : List Turn) → most_answers turns ≤ bytes_in turns + length turns
+most-within [] = omega arith
+most-within (Piece size ∷ later) = omega (arith, most-within later)
+most-within (Wait ∷ later) = omega (arith, most-within later)
+
+pub new-holds : (bytes : List ℕ) (given turns : List Turn) (answers : List PollAnswer) (len capacity : ℕ) → Laid bytes turns answers → given ≡ [] → len ≡ 0 → capacity ≡ length bytes + length turns
+    → (len + most_answers turns ≤ capacity) × IsTape (length bytes) given 0 turns
+new-holds bytes given turns answers len capacity laid none empty room = (
+  omega (arith, most-within turns, laid.whole),
+  subst (λ (g : List Turn). IsTape (length bytes) g 0 turns) (sym none) record {
+    given_so_far = refl;
+    whole = omega (arith, laid.whole);
+    not_empty = laid.not_empty;
+  },
+)

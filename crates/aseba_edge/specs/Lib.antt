@@ -3,6 +3,7 @@ pub mod Counts
 pub mod Dialer
 pub mod Files
 pub mod Link
+pub mod MemoryDialer
 pub mod MemoryFiles
 pub mod MemorySink
 pub mod Plan

@@ -4,6 +4,7 @@ ghost use Rattle.aseba_edge.specs.Dialer.{Dialed, IsFresh, after_fault, after_li
 
 use crate::link::{LinkIn, LinkOut};
 use crate::poll::LinkPoll;
+use aseba_words::Mem;
 use std::alloc::Global;
 
 /// A dial that gave no link.
@@ -13,6 +14,16 @@ pub enum DialFault {
     Refused,
     /// Memory didn't suffice.
     Mem,
+}
+
+impl From<Mem> for DialFault {
+    ghost use Rattle.aseba_edge.specs.declared.dialer.DialFault.{DialFault};
+
+    ghost from_gives = { λ _ fault. fault ≡ DialFault.Mem };
+
+    fn from(_error: Mem) -> DialFault {
+        DialFault::Mem
+    }
 }
 
 /// What opens links to addresses.

@@ -57,6 +57,14 @@ impl MemoryIn {
     }
 }
 
+impl MemoryIn {
+    pub(crate) fn mark(&self) -> u64
+        ensures { result ≡ self.now.mark }
+    {
+        self.mark
+    }
+}
+
 impl LinkIn for MemoryIn {
     ghost contents = { λ input. Some input.tape };
 

@@ -1,9 +1,10 @@
-ghost use Rattle.std.specs.Prelude.{◌≡◌, ◌<◌, ◌≤◌, ◌+◌, [], ◌∷◌, ◌++◌, IfNone, IfOk, IfSome, OnOk, drop, false, length, vec_capacity, vec_len};
-ghost use Rattle.aseba_edge.specs.Link.{IsInRoom, IsPolled, after_poll, next_given};
+ghost use Rattle.std.specs.Prelude.{◌≡◌, ◌<◌, [], ◌∷◌, ◌++◌, IfNone, IfOk, IfSome, OnOk, drop, false, length};
+ghost use Rattle.aseba_edge.specs.Link.{IsInRoom, IsPolled, after_poll, is_failed, next_given};
 ghost use Rattle.aseba_edge.specs.declared.poll.PollAnswer.TheVariants.{Bytes};
 ghost use Rattle.aseba_edge.specs.PollTape.{Laid, bytes_of, full, pending, turn_of};
 
 use crate::poll::{PollAnswer, Polled};
+use crate::reserved::push_reserved;
 use crate::turn::Turn;
 use aseba_words::{List, Mem};
 use std::alloc::Global;
@@ -54,18 +55,6 @@ fn next_turn(turns: &[Turn], next: usize, rest: usize) -> Option<(Turn, usize)>
     Some((turn, next + 1))
 }
 
-// Adds a turn for which there is room.
-fn push_reserved(turns: &mut Vec<Turn>, turn: Turn)
-    requires { vec_len turns.old < vec_capacity turns.old }
-    ensures items { turns.new.items ≡ turns.old.items ++ turn ∷ [] }
-    ensures len { vec_len turns.new ≡ vec_len turns.old + 1 }
-    ensures capacity { vec_capacity turns.old ≤ vec_capacity turns.new }
-{
-    if turns.push(turn).is_err() {
-        unreachable!("there was room for it");
-    }
-}
-
 // Lays an answer behind the others. An empty piece has no turn.
 fn lay_answer(bytes: &mut Vec<u8>, turns: &mut Vec<Turn>, answer: &PollAnswer) -> Result<(), Mem>
     ensures bytes { OnOk result (bytes.new.items ≡ bytes.old.items ++ bytes_of answer.now) }
@@ -102,10 +91,29 @@ fn lay(alloc: Global, answers: &[PollAnswer]) -> Result<(Vec<u8>, Vec<Turn>), Me
 }
 
 impl PollTape {
+    /// A tape of these answers, without pieces that are empty, of which none has been given.
+    pub fn new(alloc: Global, answers: &[PollAnswer]) -> Result<PollTape, Mem>
+        ensures { IfOk result (λ tape. tape ≡
+            record { given = []; left = full answers.now; has_ended = false }) }
+    {
+        let (bytes, turns) = lay(alloc, answers)?;
+        let given = Vec::with_capacity(alloc, bytes.len() + turns.len())?;
+        Ok(PollTape {
+            bytes,
+            given,
+            at: 0,
+            turns,
+            next: 0,
+            rest: 0,
+            has_ended: false,
+        })
+    }
+
     /// Gives the next turn: of a piece its first bytes, as many as there is room for.
     pub fn poll(&mut self, buf: &mut [u8]) -> Polled
         requires { 0 < length buf.old }
         ensures fits { IsInRoom (length buf.old) result }
+        ensures never { is_failed result ≡ false }
         ensures answer { IsPolled (next_given (length buf.old) self.old.left) result buf.new }
         ensures tape { self.new ≡ after_poll (length buf.old) result self.old }
     {

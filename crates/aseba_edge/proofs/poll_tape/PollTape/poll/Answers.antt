@@ -1,7 +1,5 @@
-use Rattle.std.proofs.Common.{◌≡◌, ◌<◌, ◌≤◌, ◌∷◌, drop, length, ℕ, List, arith, subst, ap, ◌∙◌, sym}
+use Rattle.std.proofs.Common.{◌∷◌, drop, length, arith, ap, ◌∙◌, sym}
 use Rattle.aseba_edge.specs.declared.turn.Turn.{Turn}
-use Rattle.aseba_edge.specs.declared.turn.Turn.TheVariants.{Piece, Wait}
-use Rattle.aseba_edge.specs.PollTape.{IsTape, pending}
 use Rattle.aseba_edge.proofs.PollTapes.{begun, piece-holds, wait-holds, piece-view, wait-view}
 use Rattle.aseba_edge.proofs.poll_tape.PollTape.poll.Goals as goal
 

@@ -1,0 +1,121 @@
+ghost use Rattle.std.specs.Prelude.{◌≡◌, ◌<◌, [], IfOk, OnOk, Some, reverse, vec_capacity, vec_len};
+
+use crate::dialer::{DialFault, Dialer};
+use crate::memory_in::MemoryIn;
+use crate::memory_link::{MemoryLink, MemoryPolledLink};
+use crate::memory_out::MemoryOut;
+use crate::memory_poll::MemoryPoll;
+use crate::plan::Plan;
+use crate::reserved::push_reserved;
+use aseba_words::{List, Mem, Name};
+use std::alloc::Global;
+
+/// A dial that was answered: for which address, and the mark of the link, if one was given.
+#[derive(Debug, Drop)]
+pub(crate) struct Dial {
+    pub address: Name,
+    pub mark: Option<u64>,
+}
+
+/// A dialer in memory. It gives its links in their order, and refuses where none is left. Given
+/// dials are refused too, the first being number 1.
+#[derive(Drop)]
+pub struct MemoryDialer {
+    // The next one stands last.
+    links: Vec<MemoryLink>,
+    polled: Vec<MemoryPolledLink>,
+    dials: Vec<Dial>,
+    plan: Plan,
+}
+
+// Makes room for one dial more, and copies its address.
+fn prepare(alloc: Global, dials: &mut Vec<Dial>, address: &str) -> Result<Name, Mem>
+    ensures address { IfOk result (λ name. name ≡ address.now) }
+    ensures same { dials.new.items ≡ dials.old.items }
+    ensures room { OnOk result (vec_len dials.new < vec_capacity dials.new) }
+{
+    dials.reserve(1)?;
+    Name::new(alloc, address.as_bytes())
+}
+
+impl MemoryDialer {
+    /// Takes no memory.
+    pub fn new(
+        alloc: Global,
+        links: List<MemoryLink>,
+        polled: List<MemoryPolledLink>,
+        failing: List<u64>,
+    ) -> MemoryDialer
+        ensures dials { result.dials.items ≡ [] }
+        ensures links { result.links.items ≡ reverse links }
+        ensures polled { result.polled.items ≡ reverse polled }
+        ensures plan { result.plan ≡ record { failing = failing; calls = 0; faults = 0 } }
+    {
+        let mut links = links.into_vec();
+        links.reverse();
+        let mut polled = polled.into_vec();
+        polled.reverse();
+        MemoryDialer {
+            links,
+            polled,
+            dials: Vec::new(alloc),
+            plan: Plan::new(failing),
+        }
+    }
+}
+
+impl Dialer for MemoryDialer {
+    ghost use Rattle.aseba_edge.specs.MemoryDialer.{dialed_by};
+
+    type In = MemoryIn;
+
+    type Out = MemoryOut;
+
+    type Poll = MemoryPoll;
+
+    ghost contents = { λ dialer. Some (dialed_by dialer.dials.items) };
+
+    ghost faults = { λ dialer. dialer.plan.faults };
+
+    fn dial(&mut self, alloc: Global, address: &str) -> Result<(MemoryIn, MemoryOut), DialFault> {
+        let fails = self.plan.begin();
+        let address = prepare(alloc, &mut self.dials, address)?;
+        let link = if fails { None } else { self.links.pop() };
+        match link {
+            Some(MemoryLink { input, output }) => {
+                let mark = Some(input.mark());
+                push_reserved(&mut self.dials, Dial { address, mark });
+                Ok((input, output))
+            }
+            None => {
+                let mark = None;
+                push_reserved(&mut self.dials, Dial { address, mark });
+                self.plan.fail();
+                Err(DialFault::Refused)
+            }
+        }
+    }
+
+    fn dial_polled(
+        &mut self,
+        alloc: Global,
+        address: &str,
+    ) -> Result<(MemoryPoll, MemoryOut), DialFault> {
+        let fails = self.plan.begin();
+        let address = prepare(alloc, &mut self.dials, address)?;
+        let link = if fails { None } else { self.polled.pop() };
+        match link {
+            Some(MemoryPolledLink { input, output }) => {
+                let mark = Some(input.mark());
+                push_reserved(&mut self.dials, Dial { address, mark });
+                Ok((input, output))
+            }
+            None => {
+                let mark = None;
+                push_reserved(&mut self.dials, Dial { address, mark });
+                self.plan.fail();
+                Err(DialFault::Refused)
+            }
+        }
+    }
+}
