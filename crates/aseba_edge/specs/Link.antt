@@ -1,5 +1,6 @@
 -- What a link gives, and what it has left to give.
-use Rattle.std.specs.Prelude.{◌≡◌, ℕ, ◌<◌, ◌≤◌, Bool, true, false, List, [], ◌∷◌, ◌++◌, length, take, drop, nat_le, if◌then◌else◌, ◌==◌, Option, None, Some, flat_map}
+use Rattle.std.specs.Prelude.{◌≡◌, ℕ, ◌<◌, ◌≤◌, Bool, true, false, List, [], ◌∷◌, ◌++◌, length, take, drop, nat_le, if◌then◌else◌, ◌==◌, Option, None, Some, flat_map, option_map}
+use Rattle.aseba_edge.specs.Sink.{and_then}
 use Rattle.aseba_edge.specs.declared.poll.PollAnswer.{PollAnswer}
 use Rattle.aseba_edge.specs.declared.poll.PollAnswer.TheVariants.{Bytes, Later}
 use Rattle.aseba_edge.specs.declared.poll.Polled.{Polled}
@@ -18,6 +19,14 @@ IsUnread input = (input.given ≡ []) × (input.has_ended ≡ false)
 -- the bytes that an input has given
 abbrev pub bytes_given : Input (List ℕ) → List ℕ
 bytes_given input = flat_map (λ piece. piece) input.given
+
+-- the same, where it is told
+abbrev pub told_bytes : Option (Input (List ℕ)) → Option (List ℕ)
+told_bytes contents = option_map bytes_given contents
+
+-- these bytes were given, and no others
+pub record Gave (before : Option (Input (List ℕ))) (bytes : List ℕ) (after : Option (Input (List ℕ))) : Type 0 where
+  pub bytes_are : told_bytes after ≡ and_then (told_bytes before) bytes
 
 -- whether nothing is left
 abbrev pub is_empty : {Answer : Type 0} → List Answer → Bool

@@ -17,13 +17,13 @@ pub(crate) struct Gate {
 
 impl Gate {
     /// A gate that opens when `until` bytes were taken.
-    pub fn new(alloc: Global, until: u64) -> Result<Gate, Mem> {
+    pub(crate) fn new(alloc: Global, until: u64) -> Result<Gate, Mem> {
         let taken = Arc::new(alloc, AtomicU64::new(0))?;
         Ok(Gate { taken, until })
     }
 
     /// The same gate, for the output.
-    pub fn share(&self) -> Result<Gate, Mem> {
+    pub(crate) fn share(&self) -> Result<Gate, Mem> {
         Ok(Gate {
             taken: Arc::try_clone(&self.taken)?,
             until: self.until,
@@ -31,12 +31,12 @@ impl Gate {
     }
 
     /// Says how many bytes were taken.
-    pub fn tell(&self, taken: u64) {
+    pub(crate) fn tell(&self, taken: u64) {
         self.taken.store(taken, Ordering::SeqCst);
     }
 
     /// Lets others run until the gate is open, and answers whether it is.
-    pub fn wait(&self) -> bool {
+    pub(crate) fn wait(&self) -> bool {
         for _ in 0..TURNS {
             if self.taken.load(Ordering::SeqCst) >= self.until {
                 return true;

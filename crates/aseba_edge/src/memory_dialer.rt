@@ -1,4 +1,4 @@
-ghost use Rattle.std.specs.Prelude.{◌≡◌, ◌<◌, [], IfOk, OnOk, Some, reverse, vec_capacity, vec_len};
+ghost use Rattle.std.specs.Prelude.{◌≡◌, ◌<◌, ◌++◌, ◌&&◌, [], IfOk, OnOk, Some, is_some, nat_lt, not, option_to_list, reverse, vec_capacity, vec_len};
 
 use crate::dialer::{DialFault, Dialer};
 use crate::memory_in::MemoryIn;
@@ -36,6 +36,17 @@ fn prepare(alloc: Global, dials: &mut Vec<Dial>, address: &str) -> Result<Name, 
 {
     dials.reserve(1)?;
     Name::new(alloc, address.as_bytes())
+}
+
+// The link that is given next, none where the dial is to fail.
+fn next_link<L>(links: &mut Vec<L>, fails: bool) -> Option<L>
+    ensures given { links.old.items ≡ links.new.items ++ option_to_list result }
+    ensures some { is_some result ≡ (not fails && nat_lt 0 (vec_len links.old)) }
+{
+    if fails {
+        return None;
+    }
+    links.pop()
 }
 
 impl MemoryDialer {
@@ -80,8 +91,7 @@ impl Dialer for MemoryDialer {
     fn dial(&mut self, alloc: Global, address: &str) -> Result<(MemoryIn, MemoryOut), DialFault> {
         let fails = self.plan.begin();
         let address = prepare(alloc, &mut self.dials, address)?;
-        let link = if fails { None } else { self.links.pop() };
-        match link {
+        match next_link(&mut self.links, fails) {
             Some(MemoryLink { input, output }) => {
                 let mark = Some(input.mark());
                 push_reserved(&mut self.dials, Dial { address, mark });
@@ -103,8 +113,7 @@ impl Dialer for MemoryDialer {
     ) -> Result<(MemoryPoll, MemoryOut), DialFault> {
         let fails = self.plan.begin();
         let address = prepare(alloc, &mut self.dials, address)?;
-        let link = if fails { None } else { self.polled.pop() };
-        match link {
+        match next_link(&mut self.polled, fails) {
             Some(MemoryPolledLink { input, output }) => {
                 let mark = Some(input.mark());
                 push_reserved(&mut self.dials, Dial { address, mark });

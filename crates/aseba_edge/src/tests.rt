@@ -1,5 +1,6 @@
-ghost use Rattle.std.specs.Prelude.{◌≡◌, ◌++◌, None, Some, codes, IfOk, IfSome, IsErrOf, OnOk};
+ghost use Rattle.std.specs.Prelude.{◌≡◌, ◌++◌, [], None, Some, codes, IfOk, IfSome, IsErrOf, OnOk};
 ghost use Rattle.aseba_edge.specs.Counts.{Rose};
+ghost use Rattle.aseba_edge.specs.Link.{Gave};
 ghost use Rattle.aseba_edge.specs.Sink.{Took, TookFirst};
 ghost use Rattle.aseba_edge.specs.declared.tests.Trouble.TheVariants.{Missing, Read, Write};
 
@@ -239,4 +240,135 @@ fn a_writer_that_takes_nothing_more_has_failed(rt: HostRuntime) {
     assert_eq!(rt; out.put(b"abc"), Ok(()));
     assert_eq!(rt; out.put(b""), Ok(()));
     assert_eq!(rt; out.put(b"def"), Err(PutFault { taken: 2 }));
+}
+
+// Reading a link to its end gives what it had left.
+fn read_all<I: LinkIn>(alloc: Global, input: &mut I) -> Result<Vec<u8>, Trouble>
+    ensures bytes { IfOk result (λ bytes. Gave (I.contents input.old) bytes.items (I.contents input.new)) }
+    ensures ended { OnOk result (IfSome (I.contents input.new) (λ input. input.left ≡ [])) }
+    ensures read { IsErrOf result Read → Rose (I.faults input.old) (I.faults input.new) }
+{
+    let mut bytes = Vec::new(alloc);
+    let mut piece = [0u8; 3];
+    for _ in 0..u64::MAX {
+        let Ok(count) = input.read(&mut piece) else {
+            return Err(Trouble::Read);
+        };
+        if count == 0 {
+            return Ok(bytes);
+        }
+        if bytes.extend_from_slice(&piece[..count]).is_err() {
+            return Err(Trouble::Memory);
+        }
+    }
+    Err(Trouble::Memory)
+}
+
+fn pieces_of(alloc: Global, texts: &[&str]) -> Result<List<List<u8>>, Mem> {
+    let mut pieces = List::new(alloc);
+    for text in texts {
+        let piece = List::from_slice(alloc, text.as_bytes())?;
+        pieces.push(piece).map_err(|_| Mem)?;
+    }
+    Ok(pieces)
+}
+
+fn link_of(alloc: Global, mark: u64, until: Option<u64>) -> Result<MemoryLink, Mem> {
+    let pieces = pieces_of(alloc, &["abcde", "", "f"])?;
+    let script = LinkScript::new(alloc, mark, 10);
+    match until {
+        None => MemoryLink::new(alloc, script, pieces.as_slice()),
+        Some(until) => MemoryLink::gated(alloc, script, pieces.as_slice(), until),
+    }
+}
+
+fn polled_link_of(alloc: Global) -> Result<MemoryPolledLink, Mem> {
+    let mut answers = List::new(alloc);
+    for text in ["abc", ""] {
+        let piece = List::from_slice(alloc, text.as_bytes())?;
+        answers.push(PollAnswer::Bytes(piece)).map_err(|_| Mem)?;
+        answers.push(PollAnswer::Later).map_err(|_| Mem)?;
+    }
+    let mut script = LinkScript::new(alloc, 9, 10);
+    script.failing_reads = List::from_slice(alloc, &[5])?;
+    MemoryPolledLink::new(alloc, script, answers.as_slice())
+}
+
+#[test]
+fn an_input_in_memory_gives_its_pieces(rt: HostRuntime) -> Result<(), Fail> {
+    let MemoryLink { mut input, output } = link_of(rt.alloc(), 1, None)?;
+    let mut piece = [0; 3];
+    for wanted in [b"abc".as_slice(), b"de", b"f", b"", b""] {
+        let count = input.read(&mut piece).ok().ok_or("read")?;
+        assert!(rt; count <= 3);
+        assert_eq!(rt; &piece[..count], wanted);
+    }
+    assert_eq!(rt; output.bytes(), b"".as_slice());
+    Ok(())
+}
+
+#[test]
+fn a_read_that_is_to_fail_gives_nothing(rt: HostRuntime) -> Result<(), Fail> {
+    let alloc = rt.alloc();
+    let pieces = pieces_of(alloc, &["ab"])?;
+    let mut script = LinkScript::new(alloc, 1, 10);
+    script.failing_reads = List::from_slice(alloc, &[1])?;
+    let MemoryLink {
+        mut input,
+        output: _,
+    } = MemoryLink::new(alloc, script, pieces.as_slice())?;
+    assert!(rt; read_all(alloc, &mut input).is_err());
+    let bytes = read_all(alloc, &mut input).ok().ok_or("read")?;
+    assert_eq!(rt; bytes.as_slice(), b"ab".as_slice());
+    Ok(())
+}
+
+#[test]
+fn a_gate_opens_when_the_output_took_enough(rt: HostRuntime) -> Result<(), Fail> {
+    let MemoryLink {
+        mut input,
+        mut output,
+    } = link_of(rt.alloc(), 1, Some(2))?;
+    assert!(rt; read_all(rt.alloc(), &mut input).is_err());
+    assert_eq!(rt; output.put(b"xy"), Ok(()));
+    assert!(rt; read_all(rt.alloc(), &mut input).is_ok());
+    Ok(())
+}
+
+#[test]
+fn a_polled_input_in_memory_gives_its_answers(rt: HostRuntime) -> Result<(), Fail> {
+    let MemoryPolledLink {
+        mut input,
+        output: _,
+    } = polled_link_of(rt.alloc())?;
+    let mut piece = [0; 2];
+    assert_eq!(rt; input.poll(&mut piece), Polled::Piece(2));
+    assert_eq!(rt; piece, *b"ab");
+    assert_eq!(rt; input.poll(&mut piece), Polled::Piece(1));
+    assert_eq!(rt; piece, *b"cb");
+    assert_eq!(rt; input.poll(&mut piece), Polled::NotYet);
+    assert_eq!(rt; input.poll(&mut piece), Polled::NotYet);
+    assert_eq!(rt; input.poll(&mut piece), Polled::Failed);
+    assert_eq!(rt; input.poll(&mut piece), Polled::Ended);
+    Ok(())
+}
+
+#[test]
+fn a_dialer_in_memory_gives_its_links_in_order(rt: HostRuntime) -> Result<(), Fail> {
+    let alloc = rt.alloc();
+    let mut links = List::new(alloc);
+    for mark in [4, 7] {
+        links.push(link_of(alloc, mark, None)?).map_err(|_| Mem)?;
+    }
+    let mut polled = List::new(alloc);
+    polled.push(polled_link_of(alloc)?).map_err(|_| Mem)?;
+    let mut dialer = MemoryDialer::new(alloc, links, polled, List::from_slice(alloc, &[2])?);
+    let (input, _output) = dialer.dial(alloc, "h:1").ok().ok_or("first")?;
+    assert_eq!(rt; input.mark(), 4);
+    assert!(rt; matches!(dialer.dial(alloc, "h:2"), Err(DialFault::Refused)));
+    let (input, _output) = dialer.dial(alloc, "h:3").ok().ok_or("third")?;
+    assert_eq!(rt; input.mark(), 7);
+    assert!(rt; matches!(dialer.dial(alloc, "h:4"), Err(DialFault::Refused)));
+    assert!(rt; dialer.dial_polled(alloc, "h:5").is_ok());
+    Ok(())
 }
