@@ -2,6 +2,7 @@ pub mod CodeKept
 pub mod Held
 pub mod Overwrites
 pub mod Sizes
+pub mod Sound
 pub mod Ticks
 pub mod Tops
 pub mod Words

@@ -71,7 +71,7 @@ call_cells-length : (id : ℕ) (args : List ℕ) (cells : List ℤ) → length (
 call_cells-length id args cells =
     if-length (is_call (length cells) id args) _ cells (length cells) (numbered_run-length (native_numbered id) (addresses (params_of id) args) (call_len (params_of id) args) cells) refl
 
-ended-same : (s : State) → sizes (ended s) ≡ sizes s
+pub ended-same : (s : State) → sizes (ended s) ≡ sizes s
 ended-same s = grind (arith, applied-length, length-replicate {A = Option ℤ})
 
 native_ended-same : (end : NativeEnd) (s : State) → sizes (native_ended end s).1 ≡ sizes s
