@@ -2,10 +2,10 @@
 use Rattle.std.proofs.Common.{◌≡◌, refl, ap, sym, ◌∙◌, ℕ, zero, suc, ◌+◌, add-zero, Bool, true, false, List, [], ◌∷◌, ◌++◌, replicate}
 use Rattle.std.specs.Prelude.{ℤ, Option, Some, None, Result, Ok, Err, map, zip, length, if◌then◌else◌}
 use Rattle.std.proofs.Math.Nat.{suc-add, add-suc}
-use Rattle.aseba_tree.specs.Code.{Name, expr, items, stmt, assign, change, bump, if_then, when_do, while_do, for_do, emit, callsub, call, return}
+use Rattle.aseba_tree.specs.Code.{Name, Project, expr, items, stmt, assign, change, bump, if_then, when_do, while_do, for_do, emit, callsub, call, return}
 use Rattle.aseba_tree.specs.Value.{Stop, Cells, elements, value}
 use Rattle.aseba_tree.specs.State.{Program, tasks, list_whens, Task, perform, put, leave, turn, try, next, back, finish, State, none_held}
-use Rattle.aseba_tree.specs.Step.{Stepped, ended, applied, applied_cells, storing, places, assigned, changed, ones, target_expr, tested, leaving, edge, emitted_cells, emitted, behind_back, returned, first_done, task_native, is_running, next_native, step}
+use Rattle.aseba_tree.specs.Step.{Stepped, ended, applied, applied_cells, storing, places, assigned, changed, ones, target_expr, tested, leaving, edge, emitted_cells, emitted, behind_back, returned, first_done, called, reached, arguments, argument_sizes, Argument, task_native, is_running, next_native, step}
 use Rattle.aseba_tree.specs.Laws.{is_stop, IdleStaysIdle}
 use Rattle.aseba_tree.specs.Lines.{Run, all_ticking}
 
@@ -41,7 +41,12 @@ is_stop-returned : (s : State) (rest : Option (List Task)) → is_stop (returned
 is_stop-returned s None = refl
 is_stop-returned s (Some rest) = refl
 
-StopsWell-first_done : (program : Program) (s : State) (work : List Task) → task_native work ≡ None → StopsWell s (first_done program s work)
+StopsWell-called : (project : Project) (line : ℕ) (s : State) (name : Name) (passed : Result (List Argument) Stop) (sizes : List ℕ) → reached name passed ≡ None
+    → StopsWell s (called project line s name passed sizes)
+StopsWell-called project line s name (Err stop) sizes h e = refl
+StopsWell-called project line s name (Ok passed) sizes h e = cc
+
+StopsWell-first_done : (program : Program) (s : State) (work : List Task) → task_native program s.cells work ≡ None → StopsWell s (first_done program s work)
 StopsWell-first_done program s [] h e = cc
 StopsWell-first_done program s (perform before (stmt line place (assign target v)) ∷ rest) h e =
     StopsWell-assigned line (record s { work = rest }) target.name (value program.project.consts s.cells v) (places program.project.consts s.cells target) e
@@ -61,7 +66,8 @@ StopsWell-first_done program s (perform before (stmt line place (for_do head bod
 StopsWell-first_done program s (perform before (stmt line place (emit name v)) ∷ rest) h e =
     StopsWell-emitted line (record s { work = rest }) name (emitted_cells program.project.consts s.cells v) e
 StopsWell-first_done program s (perform before (stmt line place (callsub name)) ∷ rest) h e = cc
-StopsWell-first_done program s (perform before (stmt line place (call name es)) ∷ rest) h e = cc
+StopsWell-first_done program s (perform before (stmt line place (call name es)) ∷ rest) h e =
+    StopsWell-called program.project line (record s { work = rest }) name (arguments program.project.consts s.cells es) (argument_sizes program.project.consts s.cells es) h e
 StopsWell-first_done program s (perform before (stmt line place return) ∷ rest) h e =
     StopsWell-silent (record s { work = rest }) (returned (record s { work = rest }) (behind_back rest)) (is_stop-returned (record s { work = rest }) (behind_back rest)) e
 StopsWell-first_done program s (put line name place v ∷ rest) h e = cc
@@ -72,12 +78,12 @@ StopsWell-first_done program s (next line before head body ∷ rest) h e = cc
 StopsWell-first_done program s (back line ∷ rest) h e = cc
 StopsWell-first_done program s (finish line ∷ rest) h e = cc
 
-StopsWell-running : (program : Program) (s : State) (b : Bool) → (if b then task_native s.work else None) ≡ None
+StopsWell-running : (program : Program) (s : State) (b : Bool) → (if b then task_native program s.cells s.work else None) ≡ None
     → StopsWell s (if b then first_done program s s.work else record { state = s; report = None })
 StopsWell-running program s true h e = StopsWell-first_done program s s.work h e
 StopsWell-running program s false h e = cc
 
-pub StopsWell-step : (program : Program) (s : State) → is_stop (step program s).report ≡ true → next_native s ≡ None → (step program s).state ≡ record (ended s) { paused = true }
+pub StopsWell-step : (program : Program) (s : State) → is_stop (step program s).report ≡ true → next_native program s ≡ None → (step program s).state ≡ record (ended s) { paused = true }
 unfolding step
 StopsWell-step program s e h = StopsWell-running program s (is_running s) h e
 

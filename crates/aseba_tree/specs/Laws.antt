@@ -13,9 +13,9 @@ is_stop (Some (division line)) = true
 is_stop (Some (bounds line size i)) = true
 is_stop _ = false
 
--- A stop stores nothing but what was held, where it isn't one of a native, which stores up to its stop. It ends the handler and pauses.
+-- A stop stores nothing but what was held, where it isn't one inside a native, which stores up to its stop. It ends the handler and pauses.
 pub record StopsStoreNothing : Type 0 where
-  pub cells : (program : Program) (s : State) → is_stop (step program s).report ≡ true → next_native s ≡ None
+  pub cells : (program : Program) (s : State) → is_stop (step program s).report ≡ true → next_native program s ≡ None
       → (step program s).state ≡ record (ended s) { paused = true }
   pub nothing_held : (s : State) → s.held ≡ none_held s.cells → (ended s).cells ≡ s.cells
 

@@ -66,7 +66,7 @@ lines_of program script beats = ended_lines program (run_of program script beats
 -- Pace
 
 -- What a tick shows of a run's pace: whether a handler began before its step, whether one ran then, whether it did a step, and the native
--- that the step called.
+-- whose call the step reached.
 pub record Moment : Type 0 where
   pub begins : Bool
   pub runs : Bool
@@ -84,7 +84,7 @@ moment program script run beat =
       begins = list_any is_beginning before.lines;
       runs = is_running before.state;
       steps = beat;
-      calls = if beat then next_native before.state else None;
+      calls = if beat then next_native program before.state else None;
     }
 
 abbrev pub moments_from : Program → Script → Run → List Bool → List Moment

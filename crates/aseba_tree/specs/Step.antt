@@ -295,11 +295,16 @@ work_line (task ∷ rest) = task_line task
 abbrev pub next_line : State → ℕ
 next_line s = work_line s.work
 
--- the native that the first task of a work calls
-abbrev pub task_native : List Task → Option Name
-task_native (perform before (stmt line place (call name es)) ∷ rest) = Some name
-task_native _ = None
+-- the native whose call is reached, which it isn't where an argument stops
+abbrev pub reached : Name → Result (List Argument) Stop → Option Name
+reached name (Err stop) = None
+reached name (Ok passed) = Some name
 
--- the native that the next step calls
-abbrev pub next_native : State → Option Name
-next_native s = if is_running s then task_native s.work else None
+-- the native whose call the first task of a work reaches
+abbrev pub task_native : Program → Cells → List Task → Option Name
+task_native program cells (perform before (stmt line place (call name es)) ∷ rest) = reached name (arguments program.project.consts cells es)
+task_native program cells _ = None
+
+-- the native whose call the next step reaches
+abbrev pub next_native : Program → State → Option Name
+next_native program s = if is_running s then task_native program s.cells s.work else None
