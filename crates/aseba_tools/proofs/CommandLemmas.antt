@@ -1,7 +1,8 @@
--- Four words that are a command line, or none.
+-- Words that are a command line, or none.
 use Rattle.std.proofs.Common.{◌≡◌, ℕ, List, [], ◌∷◌, length, get_or, map, string_bytes, String, Global, codes, refl, ap, sym, subst, ◌∙◌, arith, Bool, true, false, not, nat_eq}
 use Rattle.std.specs.Cmp.Lexicographic.{pointwise, bytes_decides}
-use Rattle.aseba_tools.specs.Command.{IsSim, IsNoSim, IsTicks, IsNoTicks}
+use Rattle.std.specs.List.{starts_with}
+use Rattle.aseba_tools.specs.Command.{IsSim, IsNoSim, IsTicks, IsNoTicks, IsDump}
 
 -- a list of four is its four elements
 pub four : {A : Type 0} (xs : List A) (a b c d : A) → length xs ≡ 4 → a ≡ get_or xs 0 a → b ≡ get_or xs 1 b → c ≡ get_or xs 2 c → d ≡ get_or xs 3 d → xs ≡ a ∷ b ∷ c ∷ d ∷ []
@@ -37,3 +38,19 @@ pub are_no_sim : (words : List (List ℕ)) (source number : List ℕ) → words 
 are_no_sim words source number e t source' ticks s =
     let same : number ≡ s.number = last_of _ _ _ _ _ _ _ _ (sym e ∙ s.words_are) in
     t ticks (subst (λ n. IsTicks n ticks) (sym same) s.ticks_are)
+
+-- a list of three is its three elements
+three : {A : Type 0} (xs : List A) (a b c : A) → length xs ≡ 3 → a ≡ get_or xs 0 a → b ≡ get_or xs 1 b → c ≡ get_or xs 2 c → xs ≡ a ∷ b ∷ c ∷ []
+three (x ∷ y ∷ z ∷ []) a b c n p q r = cc
+three [] a b c n p q r = absurd (omega arith)
+three (x ∷ []) a b c n p q r = absurd (omega arith)
+three (x ∷ y ∷ []) a b c n p q r = absurd (omega arith)
+three (x ∷ y ∷ z ∷ u ∷ us) a b c n p q r = absurd (omega arith)
+
+-- three words of which the first is `dump` and the last `--raw`
+pub are_dump_words : (words : List (String Global)) (tool file raw : String Global) → length words ≡ 3 → tool ≡ get_or words 0 tool → file ≡ get_or words 1 file → raw ≡ get_or words 2 raw → string_bytes tool ≡ codes "dump" → string_bytes raw ≡ codes "--raw" → map string_bytes words ≡ codes "dump" ∷ string_bytes file ∷ codes "--raw" ∷ []
+are_dump_words words tool file raw n a b c d e =
+    ap (map string_bytes) (three words tool file raw n a b c) ∙ (λ i. d i ∷ string_bytes file ∷ e i ∷ [])
+
+pub are_dump : (words : List (List ℕ)) (file : List ℕ) → words ≡ codes "dump" ∷ file ∷ codes "--raw" ∷ [] → starts_with nat_eq file (codes "tcp:") ≡ false → IsDump words file
+are_dump words file e no_link = record { words_are = e; no_link = no_link }

@@ -1,7 +1,10 @@
 pub mod CommandLemmas
+pub mod Dumping
 pub mod Loading
 pub mod Outputs
+pub mod Pages
 pub mod Running
 pub mod Simulated
+pub mod Streams
 pub mod Variables
 pub mod Writing

@@ -1,6 +1,10 @@
 pub mod Command
 pub mod DefaultNode
+pub mod DumpText
+pub mod Dumped
 pub mod Ended
-pub mod SimEnd
+pub mod Page
 pub mod SimText
 pub mod StatusText
+pub mod StreamEnd
+pub mod Unwritten

@@ -1,5 +1,5 @@
 ghost use Rattle.std.specs.Prelude.{map, string_bytes, MatchOption};
-ghost use Rattle.aseba_tools.specs.Command.{IsSim, IsNoSim, IsTicks, IsNoTicks};
+ghost use Rattle.aseba_tools.specs.Command.{IsSim, IsNoSim, IsTicks, IsNoTicks, IsDump, IsNoDump};
 
 /// The greatest number of ticks that may be asked for.
 const MOST_TICKS: u32 = 100_000_000;
@@ -12,7 +12,7 @@ pub struct SimCommand<'a> {
     pub ticks: u32,
 }
 
-/// The command that the words are, if they are one.
+/// The run that the words ask for, if they do.
 pub fn sim_command(words: &[String]) -> Option<SimCommand<'_>>
     ensures { MatchOption result (IsNoSim (map string_bytes words.now)) (λ c. IsSim (map string_bytes words.now) c.source.now c.ticks) }
 {
@@ -42,4 +42,21 @@ fn number_of_ticks(word: &str) -> Option<u32>
         Ok(ticks) if ticks <= MOST_TICKS => Some(ticks),
         _ => None,
     }
+}
+
+/// The file whose frames the words ask to be told as they stand, if they do: `dump FILE --raw`.
+pub fn dump_command(words: &[String]) -> Option<&str>
+    ensures { MatchOption result (IsNoDump (map string_bytes words.now)) (λ file. IsDump (map string_bytes words.now) file.now) }
+{
+    let [tool, file, raw] = words else {
+        return None;
+    };
+    if tool.as_str() != "dump" || raw.as_str() != "--raw" {
+        return None;
+    }
+    // A link begins so, and none is read yet.
+    if file.as_bytes().starts_with(b"tcp:") {
+        return None;
+    }
+    Some(file.as_str())
 }

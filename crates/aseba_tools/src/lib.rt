@@ -2,9 +2,12 @@
 #![tactic(auto)]
 
 mod command;
+mod dump;
 mod early;
+mod frames;
 mod lines;
 mod node;
+mod putting;
 mod refusal;
 mod sim;
 mod source;
@@ -12,6 +15,7 @@ mod status;
 mod telling;
 mod text;
 mod top;
+mod unread;
 
 pub use refusal::Refusal;
 pub use status::Status;

@@ -1,56 +1,22 @@
 //! The run of a program's words, written line by line.
 
-ghost use Rattle.std.specs.Prelude.{◌≡◌, map, ◌+◌, ◌<◌, ◌≤◌, length, ◌^◌, ◌++◌, is_err, IfOk, IfErr, OnOk, OnErr, if◌then◌else◌};
+ghost use Rattle.std.specs.Prelude.{◌≡◌, map, ◌+◌, ◌<◌, ◌≤◌, length, ◌^◌, ◌++◌, IfOk, OnOk, OnErr, if◌then◌else◌};
 ghost use Rattle.aseba_edge.specs.Counts.{Counts};
 ghost use Rattle.aseba_edge.specs.Sink.{Took, TookFirst};
 ghost use Rattle.aseba_tree.specs.Line.{lines_text};
 ghost use Rattle.aseba_codegen.specs.Table.{is_effect, started, var_lines};
-ghost use Rattle.aseba_tools.specs.SimEnd.{is_write_fault};
+ghost use Rattle.aseba_tools.specs.Unwritten.{is_write_fault};
 ghost use Rattle.aseba_tools.specs.SimText.{after_tick, code_line, end_text, ending_text, layout_with, place_of, run_text, sim_text, ticks_of, IsAt};
 ghost use Rattle.aseba_tools.specs.DefaultNode.{default_project};
 
 use crate::early::{Program, Variable};
 use crate::lines::{Moment, end_line, notice_line, var_line, words_line};
 use crate::node;
-use crate::text::Text;
+use crate::putting::{Unwritten, put_text};
 use aseba_edge::Sink;
 use aseba_vm::{Machine, Tick};
 use aseba_words::Mem;
 use std::alloc::Global;
-
-/// Why a run wasn't written whole.
-#[derive(Clone, Copy, Debug, PartialEq, Eq)]
-pub enum SimEnd {
-    /// The sink failed.
-    WriteFault,
-    /// Memory didn't suffice.
-    Mem,
-}
-
-impl From<Mem> for SimEnd {
-    ghost use Rattle.std.specs.Prelude.{◌≡◌};
-    ghost use Rattle.aseba_tools.specs.declared.sim.SimEnd.TheVariants.{Mem as OutOfMemory};
-
-    ghost from_gives = { λ _ e. e ≡ OutOfMemory };
-
-    fn from(_error: Mem) -> SimEnd {
-        SimEnd::Mem
-    }
-}
-
-/// Puts a text.
-#[tactic(auto, using(crate::proofs::Writing::put_steps))]
-fn put_text<S: Sink>(out: &mut S, text: &Text) -> Result<(), SimEnd>
-    ensures whole { OnOk result (Took (S.taken out.old) text.now (S.taken out.new)) }
-    ensures part { OnErr result (TookFirst (S.taken out.old) text.now (S.taken out.new)) }
-    ensures cause { IfErr result (λ e. e ≡ SimEnd.WriteFault) }
-    ensures count { Counts (is_err result) (S.faults out.old) (S.faults out.new) }
-{
-    match out.put(text.as_bytes()) {
-        Ok(()) => Ok(()),
-        Err(_) => Err(SimEnd::WriteFault),
-    }
-}
 
 /// How many effects a tick is, where the variables have so many cells: a store behind them is none.
 fn effects_of(cells: u64, tick: Tick) -> u64
@@ -70,7 +36,7 @@ fn tick<S: Sink>(
     program: &Program,
     moment: Moment,
     out: &mut S,
-) -> Result<Moment, SimEnd>
+) -> Result<Moment, Unwritten>
     requires ticks { moment.ticks < 2 ^ 63 }
     requires effects { moment.effects < 2 ^ 63 }
     ensures next { IfOk result (λ next. IsAt (after_tick (layout_with program.now.variables.items) moment machine.old) next machine.new) }
@@ -103,7 +69,7 @@ fn run_ticks<S: Sink>(
     program: &Program,
     ticks: u32,
     out: &mut S,
-) -> Result<Moment, SimEnd>
+) -> Result<Moment, Unwritten>
     ensures end { IfOk result (λ end. IsAt (ticks_of program.now.variables.items ticks machine.old) end machine.new) }
     ensures whole { OnOk result (Took (S.taken out.old) (lines_text (ticks_of program.now.variables.items ticks machine.old).lines) (S.taken out.new)) }
     ensures part { OnErr result (TookFirst (S.taken out.old) (lines_text (ticks_of program.now.variables.items ticks machine.old).lines) (S.taken out.new)) }
@@ -125,7 +91,7 @@ fn put_variables<S: Sink>(
     variables: &[Variable],
     cells: &[i16],
     out: &mut S,
-) -> Result<(), SimEnd>
+) -> Result<(), Unwritten>
     ensures whole { OnOk result (Took (S.taken out.old) (lines_text (var_lines cells.now (map place_of variables.now))) (S.taken out.new)) }
     ensures part { OnErr result (TookFirst (S.taken out.old) (lines_text (var_lines cells.now (map place_of variables.now))) (S.taken out.new)) }
     ensures count { Counts (is_write_fault result) (S.faults out.old) (S.faults out.new) }
@@ -144,7 +110,7 @@ fn put_ending<S: Sink>(
     cells: &[i16],
     end: Moment,
     out: &mut S,
-) -> Result<(), SimEnd>
+) -> Result<(), Unwritten>
     ensures whole { OnOk result (Took (S.taken out.old) (ending_text variables.now cells.now end) (S.taken out.new)) }
     ensures part { OnErr result (TookFirst (S.taken out.old) (ending_text variables.now cells.now end) (S.taken out.new)) }
     ensures count { Counts (is_write_fault result) (S.faults out.old) (S.faults out.new) }
@@ -155,7 +121,7 @@ fn put_ending<S: Sink>(
 
 /// Writes the last line.
 #[tactic(auto, using(crate::proofs::Writing::put_steps))]
-fn put_end<S: Sink>(alloc: Global, end: Moment, out: &mut S) -> Result<(), SimEnd>
+fn put_end<S: Sink>(alloc: Global, end: Moment, out: &mut S) -> Result<(), Unwritten>
     ensures whole { OnOk result (Took (S.taken out.old) (end_text end) (S.taken out.new)) }
     ensures part { OnErr result (TookFirst (S.taken out.old) (end_text end) (S.taken out.new)) }
     ensures count { Counts (is_write_fault result) (S.faults out.old) (S.faults out.new) }
@@ -166,7 +132,7 @@ fn put_end<S: Sink>(alloc: Global, end: Moment, out: &mut S) -> Result<(), SimEn
 
 /// Writes the line of the words.
 #[tactic(auto, using(crate::proofs::Writing::put_steps))]
-fn put_code<S: Sink>(alloc: Global, words: &[u16], out: &mut S) -> Result<(), SimEnd>
+fn put_code<S: Sink>(alloc: Global, words: &[u16], out: &mut S) -> Result<(), Unwritten>
     ensures whole { OnOk result (Took (S.taken out.old) (code_line words.now) (S.taken out.new)) }
     ensures part { OnErr result (TookFirst (S.taken out.old) (code_line words.now) (S.taken out.new)) }
     ensures count { Counts (is_write_fault result) (S.faults out.old) (S.faults out.new) }
@@ -182,7 +148,7 @@ fn put_run<S: Sink>(
     program: &Program,
     ticks: u32,
     out: &mut S,
-) -> Result<(), SimEnd>
+) -> Result<(), Unwritten>
     ensures whole { OnOk result (Took (S.taken out.old) (run_text program.now.variables.items ticks machine) (S.taken out.new)) }
     ensures part { OnErr result (TookFirst (S.taken out.old) (run_text program.now.variables.items ticks machine) (S.taken out.new)) }
     ensures count { Counts (is_write_fault result) (S.faults out.old) (S.faults out.new) }
@@ -204,7 +170,7 @@ pub fn simulate<S: Sink>(
     program: &Program,
     ticks: u32,
     out: &mut S,
-) -> Result<(), SimEnd>
+) -> Result<(), Unwritten>
     requires { length program.now.words.items ≤ 2048 }
     ensures whole { OnOk result (Took (S.taken out.old) (sim_text program.now.words.items program.now.variables.items ticks) (S.taken out.new)) }
     ensures part { OnErr result (TookFirst (S.taken out.old) (sim_text program.now.words.items program.now.variables.items ticks) (S.taken out.new)) }

@@ -1,15 +1,16 @@
 //! `sim`: a source is read, compiled and run.
 
-ghost use Rattle.std.specs.Prelude.{◌≡◌, ℕ, List, Option, option_map};
+ghost use Rattle.std.specs.Prelude.{◌≡◌, option_map};
 ghost use Rattle.aseba_edge.specs.Counts.{Counts};
-ghost use Rattle.aseba_tools.specs.Ended.{Cause, IsOfNoFile, IsOfBigFile, IsOfText, Output, is_read_fault, is_write_fault};
+ghost use Rattle.aseba_tools.specs.Ended.{Cause, IsOfText, Output, is_read_fault, is_write_fault};
 
 use crate::early::{NotCompiled, compile};
+use crate::putting::Unwritten;
 use crate::refusal::Refusal;
-use crate::sim::{SimEnd, simulate};
+use crate::sim::simulate;
 use crate::status::Status;
+use crate::unread::{absent, too_big};
 use aseba_edge::{FileAnswer, Files, Sink};
-use aseba_words::Name;
 use std::alloc::Global;
 
 /// The greatest number of bytes that a source may have.
@@ -48,34 +49,10 @@ fn run_text<S: Sink>(alloc: Global, text: &[u8], ticks: u32, out: &mut S) -> Sta
     match compile(alloc, text) {
         Ok(program) => match simulate(alloc, &program, ticks, out) {
             Ok(()) => Status::Done,
-            Err(SimEnd::WriteFault) => Status::WriteFault,
-            Err(SimEnd::Mem) => Status::Memory,
+            Err(Unwritten::WriteFault) => Status::WriteFault,
+            Err(Unwritten::Mem) => Status::Memory,
         },
         Err(NotCompiled::Refused) => Status::Refused(Refusal::NotBuilt),
         Err(NotCompiled::Mem) => Status::Memory,
-    }
-}
-
-/// The status of a file that isn't there.
-#[tactic(auto, using(crate::proofs::Outputs::wrote_nothing))]
-fn absent(alloc: Global, file: &str) -> Status
-    ensures cause { IsOfNoFile file.now result }
-    ensures output { (ticks : ℕ) (written : Option (List ℕ)) → Output ticks written written result }
-{
-    match Name::new(alloc, file.as_bytes()) {
-        Ok(file) => Status::Absent { file },
-        Err(_) => Status::Memory,
-    }
-}
-
-/// The status of a file that is too long.
-#[tactic(auto, using(crate::proofs::Outputs::wrote_nothing))]
-fn too_big(alloc: Global, file: &str) -> Status
-    ensures cause { IsOfBigFile file.now result }
-    ensures output { (ticks : ℕ) (written : Option (List ℕ)) → Output ticks written written result }
-{
-    match Name::new(alloc, file.as_bytes()) {
-        Ok(file) => Status::TooBig { file },
-        Err(_) => Status::Memory,
     }
 }

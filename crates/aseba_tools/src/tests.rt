@@ -142,7 +142,10 @@ fn words_that_are_no_command_line(rt: HostRuntime) -> Result<(), Fail> {
         "sim|default|x.aseba|99999999999999999999",
         "sim|default|x.aseba|1|1",
         "sim|other|x.aseba|1",
-        "dump|default|x.aseba|1",
+        "dump|x.aseba",
+        "dump|--raw|x.aseba",
+        "dump|x.aseba|--raw|--raw",
+        "dump|tcp:localhost:33333|--raw",
         "sim|default",
         "",
     ] {
@@ -191,5 +194,72 @@ fn a_sink_that_fails_has_the_first_bytes(rt: HostRuntime) -> Result<(), Fail> {
         assert_eq!(rt; ran.out.bytes(), &whole[..room]);
         assert_eq!(rt; ran.err.bytes(), b"aseba: write failed\n".as_slice());
     }
+    Ok(())
+}
+
+/// Source 1, kind 1, and a payload of two words.
+const ONE: &[u8] = &[4, 0, 1, 0, 1, 0, 3, 0, 255, 255];
+
+const ONE_LINE: &[u8] = b"0 1 raw 0001 0300ffff\n";
+
+#[test]
+fn frames_are_dumped(rt: HostRuntime) -> Result<(), Fail> {
+    let bad = [4, 0, 1, 0, 1, 0, 3, 0, 255, 255, 1, 4, 0];
+    for (bytes, number, written, told) in [
+        (ONE, 0, ONE_LINE, ""),
+        (&[], 0, b"", ""),
+        (&ONE[..5], 0, b"rest 5\n", ""),
+        (&bad[10..12], 10, b"", "aseba: bad frame at 0\n"),
+        (&bad, 10, ONE_LINE, "aseba: bad frame at 10\n"),
+        (&[0, 0, 7, 0, 0xcd, 0xab], 0, b"0 7 raw abcd -\n", ""),
+    ] {
+        let ran = ran_with(rt.alloc(), "dump|x.aseba|--raw", bytes, 0, 1000)?;
+        assert_eq!(rt; ran.number, number);
+        assert_eq!(rt; ran.out.bytes(), written);
+        assert_eq!(rt; ran.err.bytes(), told.as_bytes());
+    }
+    Ok(())
+}
+
+#[test]
+fn a_sink_that_fails_in_mid_stream_has_the_first_bytes(rt: HostRuntime) -> Result<(), Fail> {
+    let mut bytes = Vec::new(rt.alloc());
+    let mut lines = Vec::new(rt.alloc());
+    for _ in 0..4000 {
+        bytes.extend_from_slice(ONE)?;
+        lines.extend_from_slice(ONE_LINE)?;
+    }
+    let ran = ran_with(
+        rt.alloc(),
+        "dump|x.aseba|--raw",
+        bytes.as_slice(),
+        0,
+        40_000,
+    )?;
+    assert_eq!(rt; ran.number, 7);
+    assert_eq!(rt; Some(ran.out.bytes()), lines.as_slice().get(..40_000));
+    let ran = ran_with(
+        rt.alloc(),
+        "dump|x.aseba|--raw",
+        bytes.as_slice(),
+        0,
+        100_000,
+    )?;
+    assert_eq!(rt; ran.number, 0);
+    assert_eq!(rt; ran.out.bytes(), lines.as_slice());
+    Ok(())
+}
+
+#[test]
+fn files_that_are_not_dumped(rt: HostRuntime) -> Result<(), Fail> {
+    let ran = ran_with(rt.alloc(), "dump|missing|--raw", b"", 0, 1000)?;
+    assert_eq!(rt; ran.number, 2);
+    let ran = ran_with(rt.alloc(), "dump|x.aseba|--raw", ONE, 1, 1000)?;
+    assert_eq!(rt; ran.number, 3);
+    let long = vec![in rt.alloc(); 0; 67_108_865]?;
+    let ran = ran_with(rt.alloc(), "dump|x.aseba|--raw", long.as_slice(), 0, 1000)?;
+    assert_eq!(rt; ran.number, 9);
+    assert_eq!(rt; ran.out.bytes(), b"".as_slice());
+    assert_eq!(rt; ran.err.bytes(), b"aseba: too big x.aseba\n".as_slice());
     Ok(())
 }

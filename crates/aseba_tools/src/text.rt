@@ -1,5 +1,6 @@
 ghost use Rattle.std.specs.Prelude.{◌≡◌, ◌<◌, [], ◌++◌, false, codes, decimal, flat_map, OnOk, OnErr};
 ghost use Rattle.std.specs.Fmt.{signed_decimal, digit_glyph};
+ghost use Rattle.hex.specs.Hex.{encode_lower};
 ghost use Rattle.aseba_tree.specs.Line.{blank_cells, word_text};
 
 use aseba_words::Mem;
@@ -38,6 +39,13 @@ impl Text {
         self.bytes.as_slice()
     }
 
+    /// Takes all bytes away.
+    pub fn clear(&mut self)
+        ensures { self.new ≡ [] }
+    {
+        self.bytes.clear();
+    }
+
     /// Adds bytes.
     pub fn push(&mut self, bytes: &[u8]) -> Result<(), Mem>
         ensures ok { OnOk result (self.new ≡ self.old ++ bytes.now) }
@@ -74,6 +82,15 @@ impl Text {
             self.push_cell(*cell)?;
         }
         Ok(())
+    }
+
+    /// Adds bytes, each as two hexadecimal digits.
+    pub fn push_bytes(&mut self, alloc: Global, bytes: &[u8]) -> Result<(), Mem>
+        ensures ok { OnOk result (self.new ≡ self.old ++ encode_lower bytes.now) }
+        ensures unchanged { OnErr result (self.new ≡ self.old) }
+    {
+        let digits = hex::encode(alloc, bytes)?;
+        self.push(digits.as_bytes())
     }
 
     /// Adds words, each behind a blank.

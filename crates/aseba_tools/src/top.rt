@@ -1,10 +1,12 @@
 ghost use Rattle.std.specs.Prelude.{◌≡◌, ◌↔◌, false, ℕ, List, None, map, option_map, string_bytes};
 ghost use Rattle.aseba_edge.specs.Counts.{Counts};
-ghost use Rattle.aseba_tools.specs.Command.{IsSim, IsNoSim};
+ghost use Rattle.aseba_tools.specs.Command.{IsSim, IsDump, IsNoCommand};
+ghost use Rattle.aseba_tools.specs.Dumped.{Dumped};
 ghost use Rattle.aseba_tools.specs.Ended.{Cause, Output, Told, is_read_fault, is_write_fault};
 ghost use Rattle.aseba_tools.specs.StatusText.{message_of};
 
-use crate::command::sim_command;
+use crate::command::{dump_command, sim_command};
+use crate::dump::dump;
 use crate::source::sim;
 use crate::status::Status;
 use crate::telling::tell;
@@ -24,8 +26,8 @@ pub struct Ran<I, Q, O> {
 }
 
 /// Does what the words of a command line ask for, and tells on `err` how it ended. The words leave
-/// out the program's name. There is one tool yet, `sim default SOURCE TICKS`, which asks neither
-/// the dialer nor the clock for anything.
+/// out the program's name. There are two tools yet, `sim default SOURCE TICKS` and
+/// `dump FILE --raw`, which ask neither the dialer nor the clock for anything.
 pub fn run<F: Files, D: Dialer, S: Sink, E: Sink, C: Clock>(
     alloc: Global,
     words: &[String],
@@ -37,11 +39,13 @@ pub fn run<F: Files, D: Dialer, S: Sink, E: Sink, C: Clock>(
 ) -> Ran<D::In, D::Poll, D::Out>
     requires clock_is_fresh { C.has_answered clock.old ≡ false }
     requires clock_is_low { C.floor clock.old ≡ 0 }
-    ensures usage { (result.status ≡ Status.Usage) ↔ IsNoSim (map string_bytes words.now) }
+    ensures usage { (result.status ≡ Status.Usage) ↔ IsNoCommand (map string_bytes words.now) }
     ensures cause { (source : List ℕ) (ticks : ℕ) → IsSim (map string_bytes words.now) source ticks →
         Cause source (option_map (λ files. files source) (F.contents files.old)) result.status }
     ensures output { (source : List ℕ) (ticks : ℕ) → IsSim (map string_bytes words.now) source ticks →
         Output ticks (S.taken out.old) (S.taken out.new) result.status }
+    ensures dumped { (file : List ℕ) → IsDump (map string_bytes words.now) file →
+        Dumped file (option_map (λ files. files file) (F.contents files.old)) (S.taken out.old) (S.taken out.new) result.status }
     ensures nothing_for_usage { result.status ≡ Status.Usage → S.taken out.new ≡ S.taken out.old }
     ensures read_fault { Counts (is_read_fault result.status) (F.faults files.old) (F.faults files.new) }
     ensures write_fault { Counts (is_write_fault result.status) (S.faults out.old) (S.faults out.new) }
@@ -65,18 +69,23 @@ pub fn run<F: Files, D: Dialer, S: Sink, E: Sink, C: Clock>(
 
 /// Does what the words ask for.
 fn do_tool<F: Files, S: Sink>(alloc: Global, words: &[String], files: &mut F, out: &mut S) -> Status
-    ensures usage { (result ≡ Status.Usage) ↔ IsNoSim (map string_bytes words.now) }
+    ensures usage { (result ≡ Status.Usage) ↔ IsNoCommand (map string_bytes words.now) }
     ensures cause { (source : List ℕ) (ticks : ℕ) → IsSim (map string_bytes words.now) source ticks →
         Cause source (option_map (λ files. files source) (F.contents files.old)) result }
     ensures output { (source : List ℕ) (ticks : ℕ) → IsSim (map string_bytes words.now) source ticks →
         Output ticks (S.taken out.old) (S.taken out.new) result }
+    ensures dumped { (file : List ℕ) → IsDump (map string_bytes words.now) file →
+        Dumped file (option_map (λ files. files file) (F.contents files.old)) (S.taken out.old) (S.taken out.new) result }
     ensures nothing_for_usage { result ≡ Status.Usage → S.taken out.new ≡ S.taken out.old }
     ensures read_fault { Counts (is_read_fault result) (F.faults files.old) (F.faults files.new) }
     ensures write_fault { Counts (is_write_fault result) (S.faults out.old) (S.faults out.new) }
     ensures files { F.contents files.new ≡ F.contents files.old }
 {
-    match sim_command(words) {
-        Some(command) => sim(alloc, command.source, command.ticks, files, out),
+    if let Some(command) = sim_command(words) {
+        return sim(alloc, command.source, command.ticks, files, out);
+    }
+    match dump_command(words) {
+        Some(file) => dump(alloc, file, files, out),
         None => Status::Usage,
     }
 }

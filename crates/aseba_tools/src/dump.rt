@@ -1,0 +1,45 @@
+//! `dump`: a file of frames is read, and its frames are told as they stand.
+
+ghost use Rattle.std.specs.Prelude.{◌≡◌, option_map};
+ghost use Rattle.aseba_edge.specs.Counts.{Counts};
+ghost use Rattle.aseba_tools.specs.Ended.{is_read_fault, is_write_fault};
+ghost use Rattle.aseba_tools.specs.Dumped.{Dumped, WroteDump};
+
+use crate::frames::{StreamEnd, put_stream};
+use crate::putting::Unwritten;
+use crate::status::Status;
+use crate::unread::{absent, too_big};
+use aseba_edge::{FileAnswer, Files, Sink};
+use std::alloc::Global;
+
+/// The greatest number of bytes that a file of frames may have.
+const MOST_DUMPED: u64 = 67_108_864;
+
+/// Writes a line for each frame of a file.
+pub fn dump<F: Files, S: Sink>(alloc: Global, file: &str, files: &mut F, out: &mut S) -> Status
+    ensures dumped { Dumped file.now (option_map (λ files. files file.now) (F.contents files.old)) (S.taken out.old) (S.taken out.new) result }
+    ensures read_fault { Counts (is_read_fault result) (F.faults files.old) (F.faults files.new) }
+    ensures write_fault { Counts (is_write_fault result) (S.faults out.old) (S.faults out.new) }
+    ensures files { F.contents files.new ≡ F.contents files.old }
+{
+    match files.read(alloc, file, MOST_DUMPED) {
+        FileAnswer::Bytes(bytes) => dump_bytes(alloc, bytes.as_slice(), out),
+        FileAnswer::Absent => absent(alloc, file),
+        FileAnswer::TooBig => too_big(alloc, file),
+        FileAnswer::Failed => Status::ReadFault,
+        FileAnswer::Mem => Status::Memory,
+    }
+}
+
+/// Writes a line for each frame of a file's bytes.
+fn dump_bytes<S: Sink>(alloc: Global, bytes: &[u8], out: &mut S) -> Status
+    ensures dumped { WroteDump bytes.now (S.taken out.old) (S.taken out.new) result }
+    ensures write_fault { Counts (is_write_fault result) (S.faults out.old) (S.faults out.new) }
+{
+    match put_stream(alloc, bytes, out) {
+        Ok(StreamEnd::Ended { .. }) => Status::Done,
+        Ok(StreamEnd::Bad { place }) => Status::BadFrame { place },
+        Err(Unwritten::WriteFault) => Status::WriteFault,
+        Err(Unwritten::Mem) => Status::Memory,
+    }
+}
