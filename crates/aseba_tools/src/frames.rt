@@ -1,6 +1,6 @@
 //! A stream of frames, told line by line.
 
-ghost use Rattle.std.specs.Prelude.{◌≡◌, ◌++◌, [], ◌∷◌, codes, decimal, IsTrue, IfOk, OnOk, OnErr};
+ghost use Rattle.std.specs.Prelude.{◌≡◌, ◌<◌, ◌++◌, [], ◌∷◌, codes, decimal, length, IsTrue, IfOk, OnOk, OnErr};
 ghost use Rattle.aseba_edge.specs.Counts.{Counts};
 ghost use Rattle.aseba_edge.specs.Sink.{Took, TookFirst};
 ghost use Rattle.aseba_message.specs.Frames.{is_frame, message_of};
@@ -114,6 +114,7 @@ fn put_frame<S: Sink>(
 /// Writes a page where it is full.
 fn put_full<S: Sink>(page: &mut Text, out: &mut S) -> Result<(), Unwritten>
     ensures whole { OnOk result (Gathered (S.taken out.old) page.old [] (S.taken out.new) page.new) }
+    ensures short { OnOk result (length page.new < PAGE) }
     ensures part { OnErr result (TookFirst (S.taken out.old) page.old (S.taken out.new)) }
     ensures count { Counts (is_write_fault result) (S.faults out.old) (S.faults out.new) }
 {
