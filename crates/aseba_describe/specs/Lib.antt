@@ -1,0 +1,7 @@
+pub mod Names
+pub mod Spelling
+pub mod Plain
+pub mod Defaults
+pub mod Grammar
+pub mod Known
+pub mod Reading

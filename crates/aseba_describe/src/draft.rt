@@ -1,0 +1,210 @@
+ghost use Rattle.std.specs.Prelude.{◌≡◌, ◌<◌, ◌+◌, nat_le, IfOk};
+ghost use Rattle.aseba_describe.specs.Reading as spec;
+
+use crate::defaults::add;
+use crate::entry::Entry;
+use crate::fault::LineFault;
+use crate::known::Known;
+use aseba_tree::{Const, Description, Local, Native, Project, Sized};
+use aseba_words::{List, Mem, Name};
+use std::alloc::Global;
+
+/// What the lines so far say.
+#[derive(Drop)]
+pub struct Draft {
+    /// The kind of line that comes next, of the first five, which are needed; from then on the kind of
+    /// the last line. Kinds are counted from 0 in their order.
+    next: u8,
+    name: Name,
+    code: u16,
+    cells: u16,
+    stack: u16,
+    id: u16,
+    variables: List<Sized>,
+    locals: List<Local>,
+    natives: List<Native>,
+    events: List<Sized>,
+    consts: List<Const>,
+    /// How many cells no variable has yet.
+    left: u16,
+    cell_names: Known,
+    event_names: Known,
+    native_names: Known,
+}
+
+impl Draft {
+    /// Nothing yet.
+    pub fn new(alloc: Global) -> Result<Draft, Mem>
+        ensures { IfOk result (λ draft. draft ≡ spec.empty_draft) }
+    {
+        let name = Name::new(alloc, b"")?;
+        Ok(Draft {
+            next: 0,
+            name,
+            code: 0,
+            cells: 0,
+            stack: 0,
+            id: 0,
+            variables: List::new(alloc),
+            locals: List::new(alloc),
+            natives: List::new(alloc),
+            events: List::new(alloc),
+            consts: List::new(alloc),
+            left: 0,
+            cell_names: Known::new(alloc),
+            event_names: Known::new(alloc),
+            native_names: Known::new(alloc),
+        })
+    }
+
+    /// Whether no needed line is missing.
+    pub fn is_whole(&self) -> bool
+        ensures { result ≡ nat_le 5 self.now.next }
+    {
+        self.next >= 5
+    }
+
+    /// The project that the lines give.
+    pub fn into_project(self) -> Project
+        ensures { result ≡ spec.project_of self }
+    {
+        Project {
+            node: Description {
+                name: self.name,
+                code: self.code,
+                stack: self.stack,
+                cells: self.cells,
+                variables: self.variables,
+                locals: self.locals,
+                natives: self.natives,
+            },
+            id: self.id,
+            events: self.events,
+            consts: self.consts,
+        }
+    }
+
+    /// Takes what a line says, where that may follow. Else what was read is of no more use.
+    #[tactic(auto, unfolding(crate::specs::Reading::with_entry))]
+    pub fn take(&mut self, alloc: Global, entry: Entry) -> Result<(), LineFault>
+        ensures { spec.Gives (λ _. self.new) result (spec.with_entry self.old entry) }
+    {
+        match entry {
+            Entry::Node(name) => {
+                self.pass(0)?;
+                self.name = name;
+            }
+            Entry::Code(number) => {
+                self.pass(1)?;
+                self.code = number;
+            }
+            Entry::Vars(number) => {
+                self.pass(2)?;
+                self.cells = number;
+                self.left = number;
+            }
+            Entry::Stack(number) => {
+                self.pass(3)?;
+                self.stack = number;
+            }
+            Entry::Id(number) => {
+                self.pass(4)?;
+                self.id = number;
+            }
+            Entry::Variable(variable) => self.add_variable(alloc, variable)?,
+            Entry::Local(local) => self.add_local(alloc, local)?,
+            Entry::Native(native) => self.add_native(alloc, native)?,
+            Entry::Event(event) => self.add_event(alloc, event)?,
+            Entry::Const(constant) => self.add_const(alloc, constant)?,
+        }
+        Ok(())
+    }
+
+    /// Passes a needed line, whose turn it has to be.
+    fn pass(&mut self, rank: u8) -> Result<(), LineFault>
+        requires { rank < 5 }
+        ensures { spec.Gives (λ _. self.new) result (spec.passed rank self.old) }
+    {
+        if self.next != rank {
+            return Err(LineFault::Bad);
+        }
+        self.next = rank + 1;
+        Ok(())
+    }
+
+    /// Whether a line of a kind that may stand any number of times may follow.
+    fn is_listed(&self, rank: u8) -> bool
+        ensures { result ≡ spec.is_listed self.now.next rank }
+    {
+        5 <= self.next && self.next <= rank
+    }
+
+    #[tactic(auto, unfolding(crate::specs::Reading::with_variable))]
+    fn add_variable(&mut self, alloc: Global, variable: Sized) -> Result<(), LineFault>
+        ensures { spec.Gives (λ _. self.new) result (spec.with_variable self.old variable) }
+    {
+        if !self.is_listed(5)
+            || self.variables.as_slice().len() >= 256
+            || variable.size > self.left
+        {
+            return Err(LineFault::Bad);
+        }
+        self.cell_names.add(variable.name.copy(alloc)?)?;
+        self.next = 5;
+        self.left -= variable.size;
+        add(&mut self.variables, variable)?;
+        Ok(())
+    }
+
+    #[tactic(auto, unfolding(crate::specs::Reading::with_local))]
+    fn add_local(&mut self, alloc: Global, local: Local) -> Result<(), LineFault>
+        ensures { spec.Gives (λ _. self.new) result (spec.with_local self.old local) }
+    {
+        if !self.is_listed(6) || self.locals.as_slice().len() >= 64 {
+            return Err(LineFault::Bad);
+        }
+        self.event_names.add(local.name.copy(alloc)?)?;
+        self.next = 6;
+        add(&mut self.locals, local)?;
+        Ok(())
+    }
+
+    #[tactic(auto, unfolding(crate::specs::Reading::with_native))]
+    fn add_native(&mut self, alloc: Global, native: Native) -> Result<(), LineFault>
+        ensures { spec.Gives (λ _. self.new) result (spec.with_native self.old native) }
+    {
+        if !self.is_listed(7) || self.natives.as_slice().len() >= 64 {
+            return Err(LineFault::Bad);
+        }
+        self.native_names.add(native.name.copy(alloc)?)?;
+        self.next = 7;
+        add(&mut self.natives, native)?;
+        Ok(())
+    }
+
+    #[tactic(auto, unfolding(crate::specs::Reading::with_event))]
+    fn add_event(&mut self, alloc: Global, event: Sized) -> Result<(), LineFault>
+        ensures { spec.Gives (λ _. self.new) result (spec.with_event self.old event) }
+    {
+        if !self.is_listed(8) || self.events.as_slice().len() >= 256 {
+            return Err(LineFault::Bad);
+        }
+        self.event_names.add(event.name.copy(alloc)?)?;
+        self.next = 8;
+        add(&mut self.events, event)?;
+        Ok(())
+    }
+
+    #[tactic(auto, unfolding(crate::specs::Reading::with_const))]
+    fn add_const(&mut self, alloc: Global, constant: Const) -> Result<(), LineFault>
+        ensures { spec.Gives (λ _. self.new) result (spec.with_const self.old constant) }
+    {
+        if !self.is_listed(9) || self.consts.as_slice().len() >= 512 {
+            return Err(LineFault::Bad);
+        }
+        self.cell_names.add(constant.name.copy(alloc)?)?;
+        self.next = 9;
+        add(&mut self.consts, constant)?;
+        Ok(())
+    }
+}

@@ -1,0 +1,24 @@
+//! Projects as text: what a node is and which names its network shares, one line for each.
+#![tactic(auto)]
+
+mod defaults;
+mod draft;
+mod entry;
+mod fault;
+mod fields;
+mod known;
+mod names;
+mod plain;
+mod reading;
+mod spelling;
+
+pub use defaults::default_project;
+pub use entry::Entry;
+pub use fault::{LineFault, ProjectError};
+pub use names::{is_name, is_text};
+pub use plain::is_plain;
+pub use reading::read_project;
+pub use spelling::write_project;
+
+#[cfg(test)]
+mod tests;

@@ -1,0 +1,97 @@
+//! A project from its text.
+ghost use Rattle.std.specs.Prelude.{◌≡◌, ◌<◌, ◌∷◌, length, IfOk, IfErr};
+ghost use Rattle.std.specs.Str.Lines.{lines, strip_carriage_return};
+ghost use Rattle.aseba_describe.specs.Grammar as grammar;
+ghost use Rattle.aseba_describe.specs.Grammar.{ProjectText, TellsLine, IsDecided};
+ghost use Rattle.aseba_describe.specs.Reading as spec;
+
+use crate::draft::Draft;
+use crate::fault::{LineFault, ProjectError};
+use crate::fields::entry;
+use aseba_tree::Project;
+use std::alloc::Global;
+
+/// The project that a text spells, or the first line that breaks a rule.
+pub fn read_project(alloc: Global, text: &[u8]) -> Result<Project, ProjectError>
+    ensures project { IfOk result (λ project. ProjectText text.now project) }
+    ensures line { IfErr result (λ error. TellsLine text.now error) }
+    ensures decided { IsDecided text.now }
+{
+    match Draft::new(alloc) {
+        Ok(draft) => read_lines(alloc, draft, text),
+        Err(_) => Err(ProjectError::Mem),
+    }
+}
+
+fn read_lines(alloc: Global, draft: Draft, text: &[u8]) -> Result<Project, ProjectError>
+    ensures { spec.GivesProject result (spec.read_from 1 draft (lines text.now)) }
+{
+    let mut draft = draft;
+    let mut rest = text;
+    let mut n: u64 = 1;
+    while !rest.is_empty() {
+        let (line, behind) = first_line(rest);
+        match take_line(alloc, &mut draft, line) {
+            Ok(()) => {}
+            Err(LineFault::Bad) => return Err(ProjectError::Line { n }),
+            Err(LineFault::Mem) => return Err(ProjectError::Mem),
+        }
+        rest = behind;
+        n += 1;
+    }
+    if draft.is_whole() {
+        Ok(draft.into_project())
+    } else {
+        Err(ProjectError::Line { n })
+    }
+}
+
+/// Takes a line, which may say nothing.
+#[tactic(auto, unfolding(crate::specs::Reading::with_line))]
+fn take_line(alloc: Global, draft: &mut Draft, line: &[u8]) -> Result<(), LineFault>
+    ensures { spec.Gives (λ _. draft.new) result (spec.with_line draft.old line.now) }
+{
+    if is_skipped(line) {
+        return Ok(());
+    }
+    let entry = entry(alloc, line)?;
+    draft.take(alloc, entry)
+}
+
+fn is_skipped(line: &[u8]) -> bool
+    ensures { result ≡ grammar.is_skipped line.now }
+{
+    match line {
+        [] => true,
+        [first, ..] => *first == b'#',
+    }
+}
+
+/// The first line of a text that isn't empty, without its end, and what stands behind it.
+fn first_line(text: &[u8]) -> (&[u8], &[u8])
+    requires { 0 < length text.now }
+    ensures first { lines text.now ≡ result.0.now ∷ lines result.1.now }
+    ensures shorter { length result.1.now < length text.now }
+{
+    for (i, b) in text.iter().enumerate() {
+        if *b == b'\n' {
+            return (without_return(&text[..i]), &text[i + 1..]);
+        }
+    }
+    (text, &text[text.len()..])
+}
+
+/// What stands before a line feed, without a carriage return at its end.
+fn without_return(line: &[u8]) -> &[u8]
+    ensures { result.now ≡ strip_carriage_return line.now }
+{
+    if line.is_empty() {
+        return line;
+    }
+    let last = line.len() - 1;
+    if line[last] == b'\r' {
+        &line[..last]
+    } else {
+        line
+    }
+}

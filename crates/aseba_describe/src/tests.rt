@@ -1,0 +1,3 @@
+mod bad_lines;
+mod limits;
+mod texts;
