@@ -2,7 +2,7 @@ pub mod Apart
 pub mod BadLines
 pub mod Behind
 pub mod Complete
-mod DefaultText
+pub mod DefaultText
 pub mod EntryLaws
 pub mod Folded
 pub mod Keywords

@@ -1,6 +1,7 @@
 //! The project that stands where none is named.
 ghost use Rattle.std.specs.Prelude.{◌≡◌, [], ◌∷◌, ◌++◌, IfOk, OnOk, map};
 ghost use Rattle.aseba_describe.specs.Defaults as spec;
+ghost use Rattle.aseba_describe.specs.Grammar.{ProjectText};
 
 use aseba_tree::{Description, Native, Param, Project, Sized};
 use aseba_words::{List, Mem, Name};
@@ -9,7 +10,8 @@ use std::alloc::Global;
 /// The default project: a node of 2048 words and 1024 cells with the natives of every node, and three
 /// global events.
 pub fn default_project(alloc: Global) -> Result<Project, Mem>
-    ensures { IfOk result (λ project. project ≡ spec.default_project) }
+    ensures value { IfOk result (λ project. project ≡ spec.default_project) }
+    ensures read { IfOk result (λ project. ProjectText spec.default_text project) }
 {
     let node = default_node(alloc)?;
     let mut events = List::new(alloc);

@@ -13,9 +13,7 @@ mod reading;
 mod spelling;
 
 pub use defaults::default_project;
-pub use entry::Entry;
-pub use fault::{LineFault, ProjectError};
-pub use names::{is_name, is_text};
+pub use fault::ProjectError;
 pub use plain::is_plain;
 pub use reading::read_project;
 pub use spelling::write_project;
