@@ -11,6 +11,9 @@ use Rattle.aseba_describe.specs.declared.entry.Entry.TheVariants as entry
 use Rattle.aseba_describe.specs.declared.draft.Draft.{Draft}
 use Rattle.aseba_describe.specs.declared.fault.ProjectError.{ProjectError}
 use Rattle.aseba_describe.specs.declared.fault.ProjectError.TheVariants as error
+use Rattle.aseba_describe.specs.declared.kind.Kind.{Kind}
+use Rattle.aseba_describe.specs.declared.kind.Kind.TheVariants as kind
+use Rattle.aseba_describe.specs.Kinds.{rank_of}
 use Rattle.aseba_describe.specs.Names.{is_keyword}
 use Rattle.aseba_describe.specs.Spelling.{entry_text}
 use Rattle.aseba_describe.specs.Grammar.{ProjectLines, ProjectText, BeginsProject, IsBadLine, TellsLine, IsDecided}
@@ -18,14 +21,14 @@ use Rattle.aseba_describe.specs.Reading.{with_entry, empty_draft, project_of, re
 use Rattle.aseba_describe.proofs.Options.{when_true, bind_some}
 use Rattle.aseba_describe.proofs.EntryLaws.{PlainEntry}
 use Rattle.aseba_describe.proofs.Folded.{taken, taken_front, taken_on, line_again, says_entries, Outcome, whole, short, stuck, outcome}
-use Rattle.aseba_describe.proofs.Sound.{all_told, is_whole}
+use Rattle.aseba_describe.proofs.Sound.{all_told, whole_said}
 use Rattle.aseba_describe.proofs.Complete.{comes_to}
 
 -- lines that were taken, with all needed lines, spell a project
-spells : (rows : List (List ℕ)) (d : Draft) → taken empty_draft rows ≡ Some d → 5 ≤ d.next → ProjectLines rows (project_of d)
+spells : (rows : List (List ℕ)) (d : Draft) → taken empty_draft rows ≡ Some d → 5 ≤ rank_of d.next → ProjectLines rows (project_of d)
 spells rows d h all =
     let s = says_entries rows empty_draft d h in
-    let w = is_whole d s.said all (all_told s.said d s.each s.read) in
+    let w = whole_said d s.said all (all_told s.said d s.each s.read) in
     record { said = s.spelled ∙ ap (map entry_text) w.spelled; plain = w.plain }
 
 -- Lines can be added up to the last needed one.
@@ -33,9 +36,9 @@ pub record Completes (d : Draft) : Type 0 where
   pub more : List (List ℕ)
   pub end : Draft
   pub read : taken d more ≡ Some end
-  pub whole : 5 ≤ end.next
+  pub whole : 5 ≤ rank_of end.next
 
-from_five : (d : Draft) → 5 ≤ d.next → Completes d
+from_five : (d : Draft) → 5 ≤ rank_of d.next → Completes d
 from_five d h = record { more = []; end = d; read = refl; whole = h }
 
 one_line : (d e : Draft) (x : Entry) → PlainEntry x → with_entry d x ≡ Some e → Completes e → Completes d
@@ -46,38 +49,42 @@ one_line d e x p h c = record {
   whole = c.whole;
 }
 
-from_four : (d : Draft) → d.next ≡ 4 → Completes d
+from_four : (d : Draft) → rank_of d.next ≡ 4 → Completes d
 unfolding with_entry
 from_four d h =
-    one_line d (record d { next = 5; id = 1 }) (entry.Id 1) (omega arith, omega arith) (when_true _ _ (eq-eqb _ _ h)) (from_five _ (omega arith))
+    one_line d (record d { next = kind.Variable; id = 1 }) (entry.Id 1) (omega arith, omega arith) (when_true _ _ (eq-eqb _ _ h)) (from_five _ (omega arith))
 
-from_three : (d : Draft) → d.next ≡ 3 → Completes d
+from_three : (d : Draft) → rank_of d.next ≡ 3 → Completes d
 unfolding with_entry
 from_three d h =
-    one_line d (record d { next = 4; stack = 1 }) (entry.Stack 1) (omega arith, omega arith) (when_true _ _ (eq-eqb _ _ h)) (from_four _ refl)
+    one_line d (record d { next = kind.Id; stack = 1 }) (entry.Stack 1) (omega arith, omega arith) (when_true _ _ (eq-eqb _ _ h)) (from_four _ refl)
 
-from_two : (d : Draft) → d.next ≡ 2 → Completes d
+from_two : (d : Draft) → rank_of d.next ≡ 2 → Completes d
 unfolding with_entry
 from_two d h =
-    one_line d (record d { next = 3; cells = 1; left = 1 }) (entry.Vars 1) (omega arith, omega arith) (when_true _ _ (eq-eqb _ _ h)) (from_three _ refl)
+    one_line d (record d { next = kind.Stack; cells = 1; left = 1 }) (entry.Vars 1) (omega arith, omega arith) (when_true _ _ (eq-eqb _ _ h)) (from_three _ refl)
 
-from_one : (d : Draft) → d.next ≡ 1 → Completes d
+from_one : (d : Draft) → rank_of d.next ≡ 1 → Completes d
 unfolding with_entry
 from_one d h =
-    one_line d (record d { next = 2; code = 4 }) (entry.Code 4) (omega arith, omega arith) (when_true _ _ (eq-eqb _ _ h)) (from_two _ refl)
+    one_line d (record d { next = kind.Vars; code = 4 }) (entry.Code 4) (omega arith, omega arith) (when_true _ _ (eq-eqb _ _ h)) (from_two _ refl)
 
-from_zero : (d : Draft) → d.next ≡ 0 → Completes d
+from_zero : (d : Draft) → rank_of d.next ≡ 0 → Completes d
 unfolding with_entry is_keyword
 from_zero d h =
-    one_line d (record d { next = 1; name = codes "a" }) (entry.Node (codes "a")) refl (when_true _ _ (eq-eqb _ _ h)) (from_one _ refl)
+    one_line d (record d { next = kind.Code; name = codes "a" }) (entry.Node (codes "a")) refl (when_true _ _ (eq-eqb _ _ h)) (from_one _ refl)
 
-completes : (n : ℕ) (d : Draft) → d.next ≡ n → Completes d
-completes zero d h = from_zero d h
-completes (suc zero) d h = from_one d h
-completes (suc (suc zero)) d h = from_two d h
-completes (suc (suc (suc zero))) d h = from_three d h
-completes (suc (suc (suc (suc zero)))) d h = from_four d h
-completes (suc (suc (suc (suc (suc n))))) d h = from_five d (omega arith)
+completes : (k : Kind) (d : Draft) → d.next ≡ k → Completes d
+completes kind.Node d h = from_zero d (ap rank_of h)
+completes kind.Code d h = from_one d (ap rank_of h)
+completes kind.Vars d h = from_two d (ap rank_of h)
+completes kind.Stack d h = from_three d (ap rank_of h)
+completes kind.Id d h = from_four d (ap rank_of h)
+completes kind.Variable d h = let k = ap rank_of h in from_five d (omega arith)
+completes kind.Local d h = let k = ap rank_of h in from_five d (omega arith)
+completes kind.Native d h = let k = ap rank_of h in from_five d (omega arith)
+completes kind.Event d h = let k = ap rank_of h in from_five d (omega arith)
+completes kind.Const d h = let k = ap rank_of h in from_five d (omega arith)
 
 -- lines that were taken begin a project, and lines that begin a project are taken
 begins : (rows : List (List ℕ)) (d : Draft) → taken empty_draft rows ≡ Some d → BeginsProject rows
@@ -103,7 +110,7 @@ bad_at rows k d lt h none =
       lacks = λ past. absurd (omega arith);
     }
 
-bad_behind : (rows : List (List ℕ)) (d : Draft) → taken empty_draft rows ≡ Some d → d.next < 5 → IsBadLine rows (suc (length rows))
+bad_behind : (rows : List (List ℕ)) (d : Draft) → taken empty_draft rows ≡ Some d → rank_of d.next < 5 → IsBadLine rows (suc (length rows))
 bad_behind rows d h lt =
     let all : length rows ≤ suc (length rows) - 1 = omega arith in
     record {
@@ -115,7 +122,7 @@ bad_behind rows d h lt =
           let c = comes_to rows p lines in
           let same : Some c.known ≡ Some d = sym c.read ∙ h in
           let k : c.known ≡ d = cc in
-          let n : c.known.next ≡ d.next = ap (λ x. x.next) k in
+          let n : rank_of c.known.next ≡ rank_of d.next = ap (λ x. rank_of x.next) k in
           let w = c.whole in
           omega arith;
     }

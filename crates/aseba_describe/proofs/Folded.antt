@@ -7,6 +7,7 @@ use Rattle.aseba_describe.specs.declared.entry.Entry.{Entry}
 use Rattle.aseba_describe.specs.declared.draft.Draft.{Draft}
 use Rattle.aseba_describe.specs.Spelling.{entry_text}
 use Rattle.aseba_describe.specs.Grammar.{is_skipped, spoken}
+use Rattle.aseba_describe.specs.Kinds.{rank_of, is_whole}
 use Rattle.aseba_describe.specs.Reading.{◌>>=◌, entry_of, with_entry, with_line, project_of, read_from, goes_on}
 use Rattle.aseba_describe.proofs.Options.{bind_takes, bind_some}
 use Rattle.aseba_describe.proofs.EntryLaws.{PlainEntry, speaks, entry_again, entry_takes}
@@ -125,14 +126,14 @@ taken_on d e (line ∷ front) back h = by (λ x k. taken_on x e front back k) (w
 
 -- How reading lines ends: with a project, behind the last with needed lines missing, or at a line that can't be taken.
 pub data Outcome (n : ℕ) (d : Draft) (rows : List (List ℕ)) : Type 0 where
-  whole : (e : Draft) → taken d rows ≡ Some e → 5 ≤ e.next → read_from n d rows ≡ Ok (project_of e) → Outcome n d rows
-  short : (e : Draft) → taken d rows ≡ Some e → e.next < 5 → read_from n d rows ≡ Err (n + length rows) → Outcome n d rows
+  whole : (e : Draft) → taken d rows ≡ Some e → 5 ≤ rank_of e.next → read_from n d rows ≡ Ok (project_of e) → Outcome n d rows
+  short : (e : Draft) → taken d rows ≡ Some e → rank_of e.next < 5 → read_from n d rows ≡ Err (n + length rows) → Outcome n d rows
   stuck : (k : ℕ) (e : Draft) → suc k ≤ length rows → taken d (take k rows) ≡ Some e → taken d (take (suc k) rows) ≡ None → read_from n d rows ≡ Err (n + k) → Outcome n d rows
 
 pub outcome : (rows : List (List ℕ)) (n : ℕ) (d : Draft) → Outcome n d rows
-outcome [] n d = by (nat_le 5 d.next) refl
+outcome [] n d = by (is_whole d.next) refl
   where
-    by : (t : Bool) → nat_le 5 d.next ≡ t → Outcome n d []
+    by : (t : Bool) → is_whole d.next ≡ t → Outcome n d []
     by true h = whole d refl (grind arith) (ap (λ t. cond t (Ok (project_of d)) (Err n)) h)
     by false h =
         let none : n ≡ n + 0 = omega arith in

@@ -9,6 +9,7 @@ use Rattle.std.proofs.lemmas.Bool.{eqb-true}
 use Rattle.std.proofs.lemmas.Grind.{common_steps}
 use Rattle.aseba_tree.specs.declared.project.Project.{Project}
 use Rattle.aseba_describe.specs.declared.draft.Draft.{Draft}
+use Rattle.aseba_describe.specs.Kinds.{is_whole}
 use Rattle.aseba_describe.specs.Reading.{read_from, project_of}
 use Rattle.aseba_describe.proofs.Options.{and_takes}
 
@@ -87,11 +88,11 @@ empty_is : (bs : List ℕ) → length bs ≡ 0 → bs ≡ []
 empty_is [] h = refl
 empty_is (b ∷ bs) h = absurd (omega arith)
 
-at_end : (n : ℕ) (d : Draft) (t : Bool) → t ≡ false → cond t (Ok (project_of d)) (Err n) ≡ Err n
-at_end n d false h = refl
-at_end n d true h = absurd cc
+by_test : (n : ℕ) (d : Draft) (t r : Bool) → t ≡ r → cond t (Ok (project_of d)) (Err n) ≡ cond r (Ok (project_of d)) (Err n)
+by_test n d t r h = ap (λ b. cond b (Ok (project_of d)) (Err n)) h
 
-pub misses : (n : ℕ) (d : Draft) (rest : List ℕ) (whole : Result Project ℕ) → length rest ≡ 0 → nat_le 5 d.next ≡ false
-    → read_from n d (lines rest) ≡ whole → whole ≡ Err n
-misses n d rest whole empty short same =
-    sym same ∙ ap (λ r. read_from n d (lines r)) (empty_is rest empty) ∙ at_end n d _ short
+-- what reading gives behind the last line
+pub ends : (n : ℕ) (d : Draft) (rest : List ℕ) (whole : Result Project ℕ) (r : Bool) → length rest ≡ 0 → is_whole d.next ≡ r
+    → read_from n d (lines rest) ≡ whole → whole ≡ cond r (Ok (project_of d)) (Err n)
+ends n d rest whole r empty test same =
+    sym same ∙ ap (λ l. read_from n d (lines l)) (empty_is rest empty) ∙ by_test n d _ r test

@@ -15,10 +15,13 @@ use Rattle.aseba_tree.specs.declared.project.Project.{Project}
 use Rattle.aseba_describe.specs.declared.entry.Entry.{Entry}
 use Rattle.aseba_describe.specs.declared.entry.Entry.TheVariants as entry
 use Rattle.aseba_describe.specs.declared.draft.Draft.{Draft}
+use Rattle.aseba_describe.specs.declared.kind.Kind.{Kind}
+use Rattle.aseba_describe.specs.declared.kind.Kind.TheVariants as kind
+use Rattle.aseba_describe.specs.Kinds.{rank_of, may_follow}
 use Rattle.aseba_describe.specs.Names.{IsName, are_distinct}
 use Rattle.aseba_describe.specs.Plain.{PlainSized, PlainLocal, PlainNative, PlainConst, IsPlain, cell_names, event_names, native_names}
 use Rattle.aseba_describe.specs.Spelling.{node_entries, entries}
-use Rattle.aseba_describe.specs.Reading.{◌>>=◌, is_listed, is_new, with_variable, with_local, with_native, with_event, with_const, with_entry, empty_draft, project_of}
+use Rattle.aseba_describe.specs.Reading.{◌>>=◌, is_new, with_variable, with_local, with_native, with_event, with_const, with_entry, empty_draft, project_of}
 use Rattle.aseba_describe.proofs.Options.{when_takes, and_takes, bind_takes}
 use Rattle.aseba_describe.proofs.Apart.{distinct_more}
 use Rattle.aseba_describe.proofs.EntryLaws.{PlainEntry}
@@ -130,9 +133,9 @@ pub record Kept (names : List (List ℕ)) (all : List (List ℕ)) : Type 0 where
 
 -- What was said came to what is known.
 pub record Sound (d : Draft) (said : List Entry) : Type 0 where
-  pub spelled : said ≡ spread (take d.next (node_entries (project_of d))) d.variables d.locals d.natives d.events d.consts
-  pub later : Later d.next d.variables d.locals d.natives d.events d.consts
-  pub begun : Begun d.next d.name d.code d.cells d.stack d.id
+  pub spelled : said ≡ spread (take (rank_of d.next) (node_entries (project_of d))) d.variables d.locals d.natives d.events d.consts
+  pub later : Later (rank_of d.next) d.variables d.locals d.natives d.events d.consts
+  pub begun : Begun (rank_of d.next) d.name d.code d.cells d.stack d.id
   pub listed : Listed d.variables d.locals d.natives d.events d.consts
   pub room : d.left + named_cells d.variables ≡ d.cells
   pub cells : Kept d.cell_names (cell_names (project_of d))
@@ -172,10 +175,10 @@ kept_more names all more name k new same = record {
 }
 
 -- a needed line, at its turn
-needed : (d : Draft) (said : List Entry) (e : Entry) (next : ℕ) (name : List ℕ) (code cells stack id left : ℕ) → Sound d said → d.next < 5 → next ≤ 5
-    → take d.next (node_entries (project_of d)) ++ e ∷ []
-    ≡ take next (node_entries (project_of (record d { next = next; name = name; code = code; cells = cells; stack = stack; id = id; left = left })))
-    → Begun next name code cells stack id → left + named_cells d.variables ≡ cells
+needed : (d : Draft) (said : List Entry) (e : Entry) (next : Kind) (name : List ℕ) (code cells stack id left : ℕ) → Sound d said → (rank_of d.next) < 5 → rank_of next ≤ 5
+    → take (rank_of d.next) (node_entries (project_of d)) ++ e ∷ []
+    ≡ take (rank_of next) (node_entries (project_of (record d { next = next; name = name; code = code; cells = cells; stack = stack; id = id; left = left })))
+    → Begun (rank_of next) name code cells stack id → left + named_cells d.variables ≡ cells
     → Sound (record d { next = next; name = name; code = code; cells = cells; stack = stack; id = id; left = left }) (said ++ e ∷ [])
 needed d said e next name code cells stack id left s lt le front begun room = record {
   spelled =
@@ -197,7 +200,7 @@ needed d said e next name code cells stack id left s lt le front begun room = re
   natives = s.natives;
 }
 
-empty_room : (d : Draft) (said : List Entry) (n : ℕ) → Sound d said → d.next < 5 → n + named_cells d.variables ≡ n
+empty_room : (d : Draft) (said : List Entry) (n : ℕ) → Sound d said → (rank_of d.next) < 5 → n + named_cells d.variables ≡ n
 empty_room d said n s lt =
     let none : named_cells d.variables ≡ 0 = ap named_cells (s.later.variables lt) in
     omega (arith, none)
@@ -206,8 +209,8 @@ node_step : (d e : Draft) (said : List Entry) (name : List ℕ) → IsName name 
 unfolding with_entry
 node_step d e said name p s h =
     let w = when_takes _ _ _ h in
-    let turn : d.next ≡ 0 = eqb-true _ _ w.0 in
-    subst (λ x. Sound x (said ++ entry.Node name ∷ [])) w.1 (needed d said (entry.Node name) 1 name d.code d.cells d.stack d.id d.left s (omega arith) (omega arith)
+    let turn : (rank_of d.next) ≡ 0 = eqb-true _ _ w.0 in
+    subst (λ x. Sound x (said ++ entry.Node name ∷ [])) w.1 (needed d said (entry.Node name) kind.Code name d.code d.cells d.stack d.id d.left s (omega arith) (omega arith)
     (ap (λ k. take k (node_entries (project_of d)) ++ entry.Node name ∷ []) turn)
     (record { name = λ k. p; code = λ k. absurd (omega arith); cells = λ k. absurd (omega arith); stack = λ k. absurd (omega arith); id = λ k. absurd (omega arith) })
     s.room)
@@ -216,8 +219,8 @@ code_step : (d e : Draft) (said : List Entry) (n : ℕ) → IsFrom 4 32767 n →
 unfolding with_entry
 code_step d e said n p s h =
     let w = when_takes _ _ _ h in
-    let turn : d.next ≡ 1 = eqb-true _ _ w.0 in
-    subst (λ x. Sound x (said ++ entry.Code n ∷ [])) w.1 (needed d said (entry.Code n) 2 d.name n d.cells d.stack d.id d.left s (omega arith) (omega arith)
+    let turn : (rank_of d.next) ≡ 1 = eqb-true _ _ w.0 in
+    subst (λ x. Sound x (said ++ entry.Code n ∷ [])) w.1 (needed d said (entry.Code n) kind.Vars d.name n d.cells d.stack d.id d.left s (omega arith) (omega arith)
     (ap (λ k. take k (node_entries (project_of d)) ++ entry.Code n ∷ []) turn)
     (record { name = λ k. s.begun.name (omega arith); code = λ k. p; cells = λ k. absurd (omega arith); stack = λ k. absurd (omega arith); id = λ k. absurd (omega arith) })
     s.room)
@@ -226,8 +229,8 @@ vars_step : (d e : Draft) (said : List Entry) (n : ℕ) → IsFrom 1 4096 n → 
 unfolding with_entry
 vars_step d e said n p s h =
     let w = when_takes _ _ _ h in
-    let turn : d.next ≡ 2 = eqb-true _ _ w.0 in
-    subst (λ x. Sound x (said ++ entry.Vars n ∷ [])) w.1 (needed d said (entry.Vars n) 3 d.name d.code n d.stack d.id n s (omega arith) (omega arith)
+    let turn : (rank_of d.next) ≡ 2 = eqb-true _ _ w.0 in
+    subst (λ x. Sound x (said ++ entry.Vars n ∷ [])) w.1 (needed d said (entry.Vars n) kind.Stack d.name d.code n d.stack d.id n s (omega arith) (omega arith)
     (ap (λ k. take k (node_entries (project_of d)) ++ entry.Vars n ∷ []) turn)
     (record { name = λ k. s.begun.name (omega arith); code = λ k. s.begun.code (omega arith); cells = λ k. p; stack = λ k. absurd (omega arith); id = λ k. absurd (omega arith) })
     (empty_room d said n s (omega arith)))
@@ -236,8 +239,8 @@ stack_step : (d e : Draft) (said : List Entry) (n : ℕ) → IsFrom 1 1024 n →
 unfolding with_entry
 stack_step d e said n p s h =
     let w = when_takes _ _ _ h in
-    let turn : d.next ≡ 3 = eqb-true _ _ w.0 in
-    subst (λ x. Sound x (said ++ entry.Stack n ∷ [])) w.1 (needed d said (entry.Stack n) 4 d.name d.code d.cells n d.id d.left s (omega arith) (omega arith)
+    let turn : (rank_of d.next) ≡ 3 = eqb-true _ _ w.0 in
+    subst (λ x. Sound x (said ++ entry.Stack n ∷ [])) w.1 (needed d said (entry.Stack n) kind.Id d.name d.code d.cells n d.id d.left s (omega arith) (omega arith)
     (ap (λ k. take k (node_entries (project_of d)) ++ entry.Stack n ∷ []) turn)
     (record { name = λ k. s.begun.name (omega arith); code = λ k. s.begun.code (omega arith); cells = λ k. s.begun.cells (omega arith); stack = λ k. p; id = λ k. absurd (omega arith) })
     s.room)
@@ -246,8 +249,8 @@ id_step : (d e : Draft) (said : List Entry) (n : ℕ) → IsFrom 1 65535 n → S
 unfolding with_entry
 id_step d e said n p s h =
     let w = when_takes _ _ _ h in
-    let turn : d.next ≡ 4 = eqb-true _ _ w.0 in
-    subst (λ x. Sound x (said ++ entry.Id n ∷ [])) w.1 (needed d said (entry.Id n) 5 d.name d.code d.cells d.stack n d.left s (omega arith) (omega arith)
+    let turn : (rank_of d.next) ≡ 4 = eqb-true _ _ w.0 in
+    subst (λ x. Sound x (said ++ entry.Id n ∷ [])) w.1 (needed d said (entry.Id n) kind.Variable d.name d.code d.cells d.stack n d.left s (omega arith) (omega arith)
     (ap (λ k. take k (node_entries (project_of d)) ++ entry.Id n ∷ []) turn)
     (record { name = λ k. s.begun.name (omega arith); code = λ k. s.begun.code (omega arith); cells = λ k. s.begun.cells (omega arith); stack = λ k. s.begun.stack (omega arith); id = λ k. p })
     s.room)
@@ -261,11 +264,11 @@ begun_on n m name code cells stack id h b = record {
   id = λ k. b.id (omega (arith, h));
 }
 
-all_begun : (d : Draft) → 5 ≤ d.next → take d.next (node_entries (project_of d)) ≡ node_entries (project_of d)
-all_begun d h = take_all d.next (node_entries (project_of d)) h
+all_begun : (d : Draft) → 5 ≤ (rank_of d.next) → take (rank_of d.next) (node_entries (project_of d)) ≡ node_entries (project_of d)
+all_begun d h = take_all (rank_of d.next) (node_entries (project_of d)) h
 
-in_turn : (next rank : ℕ) → is_listed next rank ≡ true → (5 ≤ next) × (next ≤ rank)
-in_turn next rank h = let k = and_takes _ _ h in (leb_to _ _ k.0, leb_to _ _ k.1)
+in_turn : (next this : Kind) → may_follow next this ≡ true → (5 ≤ rank_of next) × (rank_of next ≤ rank_of this)
+in_turn next this h = let k = and_takes _ _ h in (leb_to _ _ k.0, leb_to _ _ k.1)
 
 below : (a b : ℕ) → nat_lt a b ≡ true → a < b
 below a b h = grind (arith, common_steps)
@@ -290,7 +293,7 @@ variable_step d e said v p s h =
     let a = and_takes _ _ w.0 in
     let b = and_takes _ _ a.0 in
     let c = and_takes _ _ b.0 in
-    let turn = in_turn d.next 5 c.0 in
+    let turn = in_turn d.next kind.Variable c.0 in
     let few : length d.variables < 256 = below _ _ c.1 in
     let room : v.size ≤ d.left = leb_to _ _ b.1 in
     subst (λ x. Sound x (said ++ entry.Variable v ∷ [])) w.1 (record {
@@ -306,7 +309,7 @@ variable_step d e said v p s h =
         events = λ k. s.later.events (omega (arith, turn.1));
         consts = λ k. s.later.consts (omega (arith, turn.1));
       };
-      begun = begun_on d.next 5 d.name d.code d.cells d.stack d.id turn.0 s.begun;
+      begun = begun_on (rank_of d.next) 5 d.name d.code d.cells d.stack d.id turn.0 s.begun;
       listed = record {
         variables = one_more 256 (InsideSized 1 4096) d.variables v s.listed.variables few p.0;
         locals = s.listed.locals;
@@ -331,7 +334,7 @@ local_step d e said l p s h =
     let w = when_takes _ _ _ h in
     let a = and_takes _ _ w.0 in
     let c = and_takes _ _ a.0 in
-    let turn = in_turn d.next 6 c.0 in
+    let turn = in_turn d.next kind.Local c.0 in
     let few : length d.locals < 64 = below _ _ c.1 in
     subst (λ x. Sound x (said ++ entry.Local l ∷ [])) w.1 (record {
       spelled =
@@ -345,7 +348,7 @@ local_step d e said l p s h =
         events = λ k. s.later.events (omega (arith, turn.1));
         consts = λ k. s.later.consts (omega (arith, turn.1));
       };
-      begun = begun_on d.next 6 d.name d.code d.cells d.stack d.id turn.0 s.begun;
+      begun = begun_on (rank_of d.next) 6 d.name d.code d.cells d.stack d.id turn.0 s.begun;
       listed = record {
         variables = s.listed.variables;
         locals = one_more 64 InsideLocal d.locals l s.listed.locals few p.0;
@@ -370,7 +373,7 @@ native_step d e said n p s h =
     let w = when_takes _ _ _ h in
     let a = and_takes _ _ w.0 in
     let c = and_takes _ _ a.0 in
-    let turn = in_turn d.next 7 c.0 in
+    let turn = in_turn d.next kind.Native c.0 in
     let few : length d.natives < 64 = below _ _ c.1 in
     subst (λ x. Sound x (said ++ entry.Native n ∷ [])) w.1 (record {
       spelled =
@@ -384,7 +387,7 @@ native_step d e said n p s h =
         events = λ k. s.later.events (omega (arith, turn.1));
         consts = λ k. s.later.consts (omega (arith, turn.1));
       };
-      begun = begun_on d.next 7 d.name d.code d.cells d.stack d.id turn.0 s.begun;
+      begun = begun_on (rank_of d.next) 7 d.name d.code d.cells d.stack d.id turn.0 s.begun;
       listed = record {
         variables = s.listed.variables;
         locals = s.listed.locals;
@@ -409,7 +412,7 @@ event_step d e said v p s h =
     let w = when_takes _ _ _ h in
     let a = and_takes _ _ w.0 in
     let c = and_takes _ _ a.0 in
-    let turn = in_turn d.next 8 c.0 in
+    let turn = in_turn d.next kind.Event c.0 in
     let few : length d.events < 256 = below _ _ c.1 in
     subst (λ x. Sound x (said ++ entry.Event v ∷ [])) w.1 (record {
       spelled =
@@ -423,7 +426,7 @@ event_step d e said v p s h =
         events = λ k. absurd (omega arith);
         consts = λ k. s.later.consts (omega (arith, turn.1));
       };
-      begun = begun_on d.next 8 d.name d.code d.cells d.stack d.id turn.0 s.begun;
+      begun = begun_on (rank_of d.next) 8 d.name d.code d.cells d.stack d.id turn.0 s.begun;
       listed = record {
         variables = s.listed.variables;
         locals = s.listed.locals;
@@ -448,7 +451,7 @@ const_step d e said v p s h =
     let w = when_takes _ _ _ h in
     let a = and_takes _ _ w.0 in
     let c = and_takes _ _ a.0 in
-    let turn = in_turn d.next 9 c.0 in
+    let turn = in_turn d.next kind.Const c.0 in
     let few : length d.consts < 512 = below _ _ c.1 in
     subst (λ x. Sound x (said ++ entry.Const v ∷ [])) w.1 (record {
       spelled =
@@ -462,7 +465,7 @@ const_step d e said v p s h =
         events = λ k. absurd (omega arith);
         consts = λ k. absurd (omega arith);
       };
-      begun = begun_on d.next 9 d.name d.code d.cells d.stack d.id turn.0 s.begun;
+      begun = begun_on (rank_of d.next) 9 d.name d.code d.cells d.stack d.id turn.0 s.begun;
       listed = record {
         variables = s.listed.variables;
         locals = s.listed.locals;
@@ -511,8 +514,8 @@ pub record Whole (d : Draft) (said : List Entry) : Type 0 where
   pub spelled : said ≡ entries (project_of d)
   pub plain : IsPlain (project_of d)
 
-pub is_whole : (d : Draft) (said : List Entry) → 5 ≤ d.next → Sound d said → Whole d said
-is_whole d said h s =
+pub whole_said : (d : Draft) (said : List Entry) → 5 ≤ (rank_of d.next) → Sound d said → Whole d said
+whole_said d said h s =
     let name = s.begun.name (omega (arith, h)) in
     let id = s.begun.id (omega (arith, h)) in
     let fits : named_cells d.variables ≤ d.cells = omega (arith, s.room) in

@@ -13,6 +13,8 @@ use Rattle.aseba_tree.specs.declared.description.Description.{Description}
 use Rattle.aseba_tree.specs.declared.project.Project.{Project}
 use Rattle.aseba_describe.specs.declared.entry.Entry.{Entry}
 use Rattle.aseba_describe.specs.declared.entry.Entry.TheVariants as entry
+use Rattle.aseba_describe.specs.declared.kind.Kind.{Kind}
+use Rattle.aseba_describe.specs.declared.kind.Kind.TheVariants as kind
 use Rattle.aseba_describe.specs.declared.fault.LineFault.{LineFault}
 use Rattle.aseba_describe.specs.declared.fault.LineFault.TheVariants as fault
 use Rattle.aseba_describe.specs.declared.fault.ProjectError.{ProjectError}
@@ -21,6 +23,7 @@ use Rattle.aseba_describe.specs.declared.draft.Draft.{Draft}
 use Rattle.aseba_tree.specs.Tokens.{is_within}
 use Rattle.aseba_describe.specs.Names.{is_same, is_name, is_text, stands_in}
 use Rattle.aseba_describe.specs.Grammar.{is_skipped}
+use Rattle.aseba_describe.specs.Kinds.{rank_of, is_whole, may_follow}
 
 infixl 10 ◌>>=◌
 abbrev pub ◌>>=◌ : {A B : Type 0} → Option A → (A → Option B) → Option B
@@ -161,49 +164,48 @@ entry_of line = do
   c ← cut line
   entry_by c.0 c.1
 
--- A kind of line that may stand any number of times follows its own kind, and those before it.
-abbrev pub is_listed : ℕ → ℕ → Bool
-is_listed next rank = nat_le 5 next && nat_le next rank
-
 abbrev pub is_new : List ℕ → List (List ℕ) → Bool
 is_new name names = not (stands_in name names)
 
 -- What was read so far and one more line, where it may follow.
 unfoldable pub with_variable : Draft → Sized → Option Draft
 with_variable d v =
-    when (is_listed d.next 5 && nat_lt (length d.variables) 256 && nat_le v.size d.left && is_new v.name d.cell_names)
-    (record d { next = 5; variables = d.variables ++ v ∷ []; left = d.left - v.size; cell_names = d.cell_names ++ v.name ∷ [] })
+    when (may_follow d.next kind.Variable && nat_lt (length d.variables) 256 && nat_le v.size d.left && is_new v.name d.cell_names)
+    (record d { next = kind.Variable; variables = d.variables ++ v ∷ []; left = d.left - v.size; cell_names = d.cell_names ++ v.name ∷ [] })
 
 unfoldable pub with_local : Draft → Local → Option Draft
 with_local d l =
-    when (is_listed d.next 6 && nat_lt (length d.locals) 64 && is_new l.name d.event_names)
-    (record d { next = 6; locals = d.locals ++ l ∷ []; event_names = d.event_names ++ l.name ∷ [] })
+    when (may_follow d.next kind.Local && nat_lt (length d.locals) 64 && is_new l.name d.event_names)
+    (record d { next = kind.Local; locals = d.locals ++ l ∷ []; event_names = d.event_names ++ l.name ∷ [] })
 
 unfoldable pub with_native : Draft → Native → Option Draft
 with_native d n =
-    when (is_listed d.next 7 && nat_lt (length d.natives) 64 && is_new n.name d.native_names)
-    (record d { next = 7; natives = d.natives ++ n ∷ []; native_names = d.native_names ++ n.name ∷ [] })
+    when (may_follow d.next kind.Native && nat_lt (length d.natives) 64 && is_new n.name d.native_names)
+    (record d { next = kind.Native; natives = d.natives ++ n ∷ []; native_names = d.native_names ++ n.name ∷ [] })
 
 unfoldable pub with_event : Draft → Sized → Option Draft
 with_event d e =
-    when (is_listed d.next 8 && nat_lt (length d.events) 256 && is_new e.name d.event_names)
-    (record d { next = 8; events = d.events ++ e ∷ []; event_names = d.event_names ++ e.name ∷ [] })
+    when (may_follow d.next kind.Event && nat_lt (length d.events) 256 && is_new e.name d.event_names)
+    (record d { next = kind.Event; events = d.events ++ e ∷ []; event_names = d.event_names ++ e.name ∷ [] })
 
 unfoldable pub with_const : Draft → Const → Option Draft
 with_const d c =
-    when (is_listed d.next 9 && nat_lt (length d.consts) 512 && is_new c.name d.cell_names)
-    (record d { next = 9; consts = d.consts ++ c ∷ []; cell_names = d.cell_names ++ c.name ∷ [] })
+    when (may_follow d.next kind.Const && nat_lt (length d.consts) 512 && is_new c.name d.cell_names)
+    (record d { next = kind.Const; consts = d.consts ++ c ∷ []; cell_names = d.cell_names ++ c.name ∷ [] })
 
 -- a needed line, at its turn
-abbrev pub passed : ℕ → Draft → Option Draft
-passed rank d = when (d.next == rank) (record d { next = rank + 1 })
+abbrev pub is_turn : Kind → Kind → Bool
+is_turn next this = rank_of next == rank_of this
+
+abbrev pub passed : Kind → Kind → Draft → Option Draft
+passed this next d = when (is_turn d.next this) (record d { next = next })
 
 unfoldable pub with_entry : Draft → Entry → Option Draft
-with_entry d (entry.Node name) = when (d.next == 0) (record d { next = 1; name = name })
-with_entry d (entry.Code n) = when (d.next == 1) (record d { next = 2; code = n })
-with_entry d (entry.Vars n) = when (d.next == 2) (record d { next = 3; cells = n; left = n })
-with_entry d (entry.Stack n) = when (d.next == 3) (record d { next = 4; stack = n })
-with_entry d (entry.Id n) = when (d.next == 4) (record d { next = 5; id = n })
+with_entry d (entry.Node name) = when (is_turn d.next kind.Node) (record d { next = kind.Code; name = name })
+with_entry d (entry.Code n) = when (is_turn d.next kind.Code) (record d { next = kind.Vars; code = n })
+with_entry d (entry.Vars n) = when (is_turn d.next kind.Vars) (record d { next = kind.Stack; cells = n; left = n })
+with_entry d (entry.Stack n) = when (is_turn d.next kind.Stack) (record d { next = kind.Id; stack = n })
+with_entry d (entry.Id n) = when (is_turn d.next kind.Id) (record d { next = kind.Variable; id = n })
 with_entry d (entry.Variable v) = with_variable d v
 with_entry d (entry.Local l) = with_local d l
 with_entry d (entry.Native n) = with_native d n
@@ -213,7 +215,7 @@ with_entry d (entry.Const c) = with_const d c
 -- nothing was read
 abbrev pub empty_draft : Draft
 empty_draft = record {
-  next = 0;
+  next = kind.Node;
   name = [];
   code = 0;
   cells = 0;
@@ -255,7 +257,7 @@ goes_on others n None = Err n
 goes_on others n (Some d) = others d
 
 abbrev pub read_from : ℕ → Draft → List (List ℕ) → Result Project ℕ
-read_from n d [] = if nat_le 5 d.next then Ok (project_of d) else Err n
+read_from n d [] = if is_whole d.next then Ok (project_of d) else Err n
 read_from n d (line ∷ lines) = goes_on (λ e. read_from (n + 1) e lines) n (with_line d line)
 
 -- What a reader of a whole text returned is what reading gives, unless memory ran out.

@@ -3,6 +3,7 @@ ghost use Rattle.std.specs.Prelude.{◌≡◌, [], ◌∷◌, ◌++◌, IfOk, On
 ghost use Rattle.aseba_describe.specs.Defaults as spec;
 ghost use Rattle.aseba_describe.specs.Grammar.{ProjectText};
 
+use crate::lists::add;
 use aseba_tree::{Description, Native, Param, Project, Sized};
 use aseba_words::{List, Mem, Name};
 use std::alloc::Global;
@@ -156,14 +157,4 @@ fn params_of(alloc: Global, params: &[(i16, &[u8])]) -> Result<List<Param>, Mem>
         add(&mut list, Param { size: *size, name })?;
     }
     Ok(list)
-}
-
-/// Adds an element at the end.
-pub fn add<T: Drop>(list: &mut List<T>, value: T) -> Result<(), Mem>
-    ensures { OnOk result (list.new ≡ list.old ++ value ∷ []) }
-{
-    match list.push(value) {
-        Ok(()) => Ok(()),
-        Err(_) => Err(Mem),
-    }
 }

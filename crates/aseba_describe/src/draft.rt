@@ -1,10 +1,12 @@
-ghost use Rattle.std.specs.Prelude.{◌≡◌, ◌<◌, ◌+◌, nat_le, IfOk};
+ghost use Rattle.std.specs.Prelude.{◌≡◌, IfOk};
+ghost use Rattle.aseba_describe.specs.Kinds.{is_whole, may_follow};
 ghost use Rattle.aseba_describe.specs.Reading as spec;
 
-use crate::defaults::add;
 use crate::entry::Entry;
 use crate::fault::LineFault;
+use crate::kind::Kind;
 use crate::known::Known;
+use crate::lists::add;
 use aseba_tree::{Const, Description, Local, Native, Project, Sized};
 use aseba_words::{List, Mem, Name};
 use std::alloc::Global;
@@ -12,9 +14,9 @@ use std::alloc::Global;
 /// What the lines so far say.
 #[derive(Drop)]
 pub struct Draft {
-    /// The kind of line that comes next, of the first five, which are needed; from then on the kind of
-    /// the last line. Kinds are counted from 0 in their order.
-    next: u8,
+    /// The kind of line that comes next: while needed lines are missing that one alone, from then on it
+    /// or a later one.
+    next: Kind,
     name: Name,
     code: u16,
     cells: u16,
@@ -39,7 +41,7 @@ impl Draft {
     {
         let name = Name::new(alloc, b"")?;
         Ok(Draft {
-            next: 0,
+            next: Kind::Node,
             name,
             code: 0,
             cells: 0,
@@ -59,9 +61,9 @@ impl Draft {
 
     /// Whether no needed line is missing.
     pub fn is_whole(&self) -> bool
-        ensures { result ≡ nat_le 5 self.now.next }
+        ensures { result ≡ is_whole self.now.next }
     {
-        self.next >= 5
+        self.next.rank() >= Kind::Variable.rank()
     }
 
     /// The project that the lines give.
@@ -91,24 +93,24 @@ impl Draft {
     {
         match entry {
             Entry::Node(name) => {
-                self.pass(0)?;
+                self.pass(Kind::Node, Kind::Code)?;
                 self.name = name;
             }
             Entry::Code(number) => {
-                self.pass(1)?;
+                self.pass(Kind::Code, Kind::Vars)?;
                 self.code = number;
             }
             Entry::Vars(number) => {
-                self.pass(2)?;
+                self.pass(Kind::Vars, Kind::Stack)?;
                 self.cells = number;
                 self.left = number;
             }
             Entry::Stack(number) => {
-                self.pass(3)?;
+                self.pass(Kind::Stack, Kind::Id)?;
                 self.stack = number;
             }
             Entry::Id(number) => {
-                self.pass(4)?;
+                self.pass(Kind::Id, Kind::Variable)?;
                 self.id = number;
             }
             Entry::Variable(variable) => self.add_variable(alloc, variable)?,
@@ -121,36 +123,35 @@ impl Draft {
     }
 
     /// Passes a needed line, whose turn it has to be.
-    fn pass(&mut self, rank: u8) -> Result<(), LineFault>
-        requires { rank < 5 }
-        ensures { spec.Gives (λ _. self.new) result (spec.passed rank self.old) }
+    fn pass(&mut self, this: Kind, next: Kind) -> Result<(), LineFault>
+        ensures { spec.Gives (λ _. self.new) result (spec.passed this next self.old) }
     {
-        if self.next != rank {
+        if self.next.rank() != this.rank() {
             return Err(LineFault::Bad);
         }
-        self.next = rank + 1;
+        self.next = next;
         Ok(())
     }
 
-    /// Whether a line of a kind that may stand any number of times may follow.
-    fn is_listed(&self, rank: u8) -> bool
-        ensures { result ≡ spec.is_listed self.now.next rank }
+    /// Whether a line of this kind, of which there may be any number, may follow.
+    fn may_follow(&self, this: Kind) -> bool
+        ensures { result ≡ may_follow self.now.next this }
     {
-        5 <= self.next && self.next <= rank
+        self.is_whole() && self.next.rank() <= this.rank()
     }
 
     #[tactic(auto, unfolding(crate::specs::Reading::with_variable))]
     fn add_variable(&mut self, alloc: Global, variable: Sized) -> Result<(), LineFault>
         ensures { spec.Gives (λ _. self.new) result (spec.with_variable self.old variable) }
     {
-        if !self.is_listed(5)
+        if !self.may_follow(Kind::Variable)
             || self.variables.as_slice().len() >= 256
             || variable.size > self.left
         {
             return Err(LineFault::Bad);
         }
         self.cell_names.add(variable.name.copy(alloc)?)?;
-        self.next = 5;
+        self.next = Kind::Variable;
         self.left -= variable.size;
         add(&mut self.variables, variable)?;
         Ok(())
@@ -160,11 +161,11 @@ impl Draft {
     fn add_local(&mut self, alloc: Global, local: Local) -> Result<(), LineFault>
         ensures { spec.Gives (λ _. self.new) result (spec.with_local self.old local) }
     {
-        if !self.is_listed(6) || self.locals.as_slice().len() >= 64 {
+        if !self.may_follow(Kind::Local) || self.locals.as_slice().len() >= 64 {
             return Err(LineFault::Bad);
         }
         self.event_names.add(local.name.copy(alloc)?)?;
-        self.next = 6;
+        self.next = Kind::Local;
         add(&mut self.locals, local)?;
         Ok(())
     }
@@ -173,11 +174,11 @@ impl Draft {
     fn add_native(&mut self, alloc: Global, native: Native) -> Result<(), LineFault>
         ensures { spec.Gives (λ _. self.new) result (spec.with_native self.old native) }
     {
-        if !self.is_listed(7) || self.natives.as_slice().len() >= 64 {
+        if !self.may_follow(Kind::Native) || self.natives.as_slice().len() >= 64 {
             return Err(LineFault::Bad);
         }
         self.native_names.add(native.name.copy(alloc)?)?;
-        self.next = 7;
+        self.next = Kind::Native;
         add(&mut self.natives, native)?;
         Ok(())
     }
@@ -186,11 +187,11 @@ impl Draft {
     fn add_event(&mut self, alloc: Global, event: Sized) -> Result<(), LineFault>
         ensures { spec.Gives (λ _. self.new) result (spec.with_event self.old event) }
     {
-        if !self.is_listed(8) || self.events.as_slice().len() >= 256 {
+        if !self.may_follow(Kind::Event) || self.events.as_slice().len() >= 256 {
             return Err(LineFault::Bad);
         }
         self.event_names.add(event.name.copy(alloc)?)?;
-        self.next = 8;
+        self.next = Kind::Event;
         add(&mut self.events, event)?;
         Ok(())
     }
@@ -199,11 +200,11 @@ impl Draft {
     fn add_const(&mut self, alloc: Global, constant: Const) -> Result<(), LineFault>
         ensures { spec.Gives (λ _. self.new) result (spec.with_const self.old constant) }
     {
-        if !self.is_listed(9) || self.consts.as_slice().len() >= 512 {
+        if !self.may_follow(Kind::Const) || self.consts.as_slice().len() >= 512 {
             return Err(LineFault::Bad);
         }
         self.cell_names.add(constant.name.copy(alloc)?)?;
-        self.next = 9;
+        self.next = Kind::Const;
         add(&mut self.consts, constant)?;
         Ok(())
     }

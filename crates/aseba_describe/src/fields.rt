@@ -3,9 +3,9 @@ ghost use Rattle.std.specs.Prelude.{◌≡◌, ◌≤◌, ◌-◌, negsuc, nat_l
 ghost use Rattle.aseba_tree.specs.Inside.{native_message_len, param_message_len};
 ghost use Rattle.aseba_describe.specs.Reading as spec;
 
-use crate::defaults::add;
 use crate::entry::Entry;
 use crate::fault::LineFault;
+use crate::lists::add;
 use crate::names::{is_name, is_text};
 use aseba_tree::{Const, Local, Native, Param, Sized};
 use aseba_words::{List, Name};

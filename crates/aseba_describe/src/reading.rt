@@ -17,10 +17,8 @@ pub fn read_project(alloc: Global, text: &[u8]) -> Result<Project, ProjectError>
     ensures line { IfErr result (λ error. TellsLine text.now error) }
     ensures decided { IsDecided text.now }
 {
-    match Draft::new(alloc) {
-        Ok(draft) => read_lines(alloc, draft, text),
-        Err(_) => Err(ProjectError::Mem),
-    }
+    let draft = Draft::new(alloc)?;
+    read_lines(alloc, draft, text)
 }
 
 fn read_lines(alloc: Global, draft: Draft, text: &[u8]) -> Result<Project, ProjectError>

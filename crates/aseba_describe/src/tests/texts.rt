@@ -1,6 +1,4 @@
 use crate::{ProjectError, default_project, is_plain, read_project, write_project};
-use aseba_tree::Project;
-use aseba_words::Mem;
 use std::alloc::Global;
 use std::test::Fail;
 
@@ -14,10 +12,8 @@ pub fn again(alloc: Global, text: &[u8]) -> Result<Vec<u8>, ProjectError> {
     if !is_plain(&project) {
         return Err(ProjectError::Line { n: 0 });
     }
-    match write_project(alloc, &project) {
-        Ok(text) => Ok(text.into_vec()),
-        Err(_) => Err(ProjectError::Mem),
-    }
+    let text = write_project(alloc, &project)?;
+    Ok(text.into_vec())
 }
 
 #[test]
@@ -53,6 +49,15 @@ fn the_last_line_may_lack_its_end(rt: HostRuntime) -> Result<(), Fail> {
         written.as_slice(),
         b"node r\ncode 32767\nvars 4096\nstack 1024\nid 65535\n".as_slice()
     );
+    Ok(())
+}
+
+#[test]
+fn sizes_may_be_at_their_limits(rt: HostRuntime) -> Result<(), Fail> {
+    let text =
+        b"node r\ncode 4\nvars 4096\nstack 1\nid 1\nvariable v 4096\nnative n -32768 a 32767 b ; \nevent e 256\nevent f 0\nconst c 32767\nconst d -32768\n";
+    let written = again(rt.alloc(), text.as_slice())?;
+    assert_eq!(rt; written.as_slice(), text.as_slice());
     Ok(())
 }
 
