@@ -1,5 +1,5 @@
 -- Natives added one behind the other.
-use Rattle.std.proofs.Common.{◌≡◌, List, [], ◌∷◌, ◌++◌, refl, append_assoc, ap, ◌∙◌}
+use Rattle.std.proofs.Common.{◌≡◌, List, [], ◌∷◌, ◌++◌, append_assoc, ap, ◌∙◌}
 
 pub two : {A : Type 0} (o a b : List A) (x y : A) → a ≡ o ++ x ∷ [] → b ≡ a ++ y ∷ [] → b ≡ o ++ (x ∷ y ∷ [])
 two o a b x y p q = q ∙ ap (λ l. l ++ y ∷ []) p ∙ append_assoc o (x ∷ []) (y ∷ [])

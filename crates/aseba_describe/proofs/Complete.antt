@@ -1,5 +1,5 @@
 -- What a plain project says is taken, line by line, and comes to the project.
-use Rattle.std.proofs.Common.{◌≡◌, ℕ, ◌+◌, ◌-◌, ◌<◌, ◌≤◌, Bool, true, not, ◌&&◌, nat_le, nat_lt, List, [], ◌∷◌, ◌++◌, length, map, Option, Some, refl, sym, ap, ◌∙◌, arith, append_assoc, append-nil, length-append}
+use Rattle.std.proofs.Common.{◌≡◌, ℕ, ◌+◌, ◌-◌, ◌<◌, ◌≤◌, true, nat_lt, List, [], ◌∷◌, ◌++◌, length, map, Some, refl, sym, ap, ◌∙◌, arith, append_assoc, append-nil, length-append}
 use Rattle.std.specs.List.{All}
 use Rattle.std.proofs.lemmas.Grind.{common_steps}
 use Rattle.std.proofs.lemmas.List.{map-append}
@@ -17,9 +17,9 @@ use Rattle.aseba_describe.specs.declared.draft.Draft.{Draft}
 use Rattle.aseba_describe.specs.declared.kind.Kind.{Kind}
 use Rattle.aseba_describe.specs.declared.kind.Kind.TheVariants as kind
 use Rattle.aseba_describe.specs.Kinds.{rank_of, may_follow}
-use Rattle.aseba_describe.specs.Names.{are_distinct, stands_in}
+use Rattle.aseba_describe.specs.Names.{are_distinct}
 use Rattle.aseba_describe.specs.Plain.{IsPlain}
-use Rattle.aseba_describe.specs.Spelling.{node_entries, entries, entry_text}
+use Rattle.aseba_describe.specs.Spelling.{node_entries, entries}
 use Rattle.aseba_describe.specs.Grammar.{ProjectLines}
 use Rattle.aseba_describe.specs.Reading.{is_new, with_variable, with_local, with_native, with_event, with_const, with_entry, empty_draft, project_of}
 use Rattle.aseba_describe.proofs.Options.{when_true, and_true, bind_some}

@@ -1,5 +1,5 @@
 -- The default project is that of its text.
-use Rattle.std.proofs.Common.{◌≡◌, Ok, refl, sym, subst, ap, ◌∙◌}
+use Rattle.std.proofs.Common.{◌≡◌, Ok, refl, sym, subst}
 use Rattle.std.specs.Fmt.{digits}
 use Rattle.std.specs.Str.Lines.{lines}
 use Rattle.aseba_tree.specs.declared.project.Project.{Project}

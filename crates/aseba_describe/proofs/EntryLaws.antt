@@ -1,7 +1,6 @@
 -- What a line says is read from its spelling, and what is read from a line is spelled so.
-use Rattle.std.proofs.Common.{◌≡◌, ℕ, ◌≤◌, ◌<◌, Bool, true, false, List, [], ◌∷◌, ◌++◌, Option, Some, None, ◌⊎◌, inl, inr, refl, sym, ap, ◌∙◌, subst, arith, codes, decimal, cond}
+use Rattle.std.proofs.Common.{◌≡◌, ℕ, Bool, true, false, List, ◌∷◌, ◌++◌, Option, Some, None, refl, ap, ◌∙◌, subst, arith, codes, cond}
 use Rattle.std.specs.Option.{option_map}
-use Rattle.std.specs.Fmt.{signed_decimal}
 use Rattle.aseba_tree.specs.Inside.{IsFrom, InsideSized, InsideLocal, InsideNative, InsideConst}
 use Rattle.aseba_tree.specs.declared.description.Sized.{Sized}
 use Rattle.aseba_tree.specs.declared.description.Local.{Local}
@@ -9,11 +8,11 @@ use Rattle.aseba_tree.specs.declared.description.Native.{Native}
 use Rattle.aseba_tree.specs.declared.project.Const.{Const}
 use Rattle.aseba_describe.specs.declared.entry.Entry.{Entry}
 use Rattle.aseba_describe.specs.declared.entry.Entry.TheVariants as entry
-use Rattle.aseba_describe.specs.Names.{IsName, is_name, is_same}
+use Rattle.aseba_describe.specs.Names.{IsName, is_same}
 use Rattle.aseba_describe.specs.Plain.{PlainSized, PlainLocal, PlainNative, PlainConst}
 use Rattle.aseba_describe.specs.Spelling.{entry_text}
 use Rattle.aseba_describe.specs.Grammar.{is_skipped}
-use Rattle.aseba_describe.specs.Reading.{cut, name_of, number_from, sized_of, local_of, native_of, const_of, list_entry_by, entry_by, entry_of}
+use Rattle.aseba_describe.specs.Reading.{name_of, number_from, sized_of, local_of, native_of, const_of, list_entry_by, entry_by, entry_of}
 use Rattle.aseba_describe.proofs.Options.{when_takes, bind_takes}
 use Rattle.aseba_describe.proofs.Numbers.{same_is}
 use Rattle.aseba_describe.proofs.Spelled.{cut_takes, name_again, number_from_again, number_from_takes, sized_again, sized_takes, local_again, local_takes, const_again, const_takes, short_is, short_text}

@@ -1,8 +1,7 @@
 -- Lines taken one behind the other.
-use Rattle.std.proofs.Common.{◌≡◌, ℕ, zero, suc, ◌+◌, ◌<◌, ◌≤◌, Bool, true, false, not, nat_le, List, [], ◌∷◌, ◌++◌, length, take, map, Option, Some, None, Result, Ok, Err, refl, sym, ap, ◌∙◌, arith, cond}
-use Rattle.std.specs.List.{All, filter}
+use Rattle.std.proofs.Common.{◌≡◌, ℕ, suc, ◌+◌, ◌<◌, ◌≤◌, Bool, true, false, not, List, [], ◌∷◌, ◌++◌, length, take, map, Option, Some, None, Ok, Err, refl, sym, ap, ◌∙◌, arith, cond}
+use Rattle.std.specs.List.{All}
 use Rattle.std.proofs.lemmas.List.Elements.{All-nil, All-cons, All-head, All-tail}
-use Rattle.aseba_tree.specs.declared.project.Project.{Project}
 use Rattle.aseba_describe.specs.declared.entry.Entry.{Entry}
 use Rattle.aseba_describe.specs.declared.draft.Draft.{Draft}
 use Rattle.aseba_describe.specs.Spelling.{entry_text}

@@ -1,5 +1,5 @@
 -- The table of keywords, in groups.
-use Rattle.std.proofs.Common.{◌≡◌, ◌∙◌, ap, Bool, ◌||◌, ℕ, List, take, drop}
+use Rattle.std.proofs.Common.{◌≡◌, ◌∙◌, ap, ◌||◌, ℕ, List, take, drop}
 use Rattle.std.proofs.lemmas.List.Folds.{list_any-append}
 use Rattle.aseba_tree.specs.Tokens.{keywords}
 use Rattle.aseba_describe.specs.Names.{is_same, is_one_of, is_keyword}

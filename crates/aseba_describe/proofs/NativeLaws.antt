@@ -1,17 +1,17 @@
 -- A native is read from its spelling, and what is read as one is spelled so.
-use Rattle.std.proofs.Common.{◌≡◌, ℕ, ℤ, pos, negsuc, zero, suc, ◌+◌, ◌<◌, ◌≤◌, ◌≢◌, Bool, true, false, not, ◌==◌, nat_le, List, [], ◌∷◌, ◌++◌, length, Option, Some, None, refl, sym, ap, ◌∙◌, subst, arith, append_assoc, codes, cond}
+use Rattle.std.proofs.Common.{◌≡◌, ℕ, ℤ, pos, negsuc, zero, suc, ◌<◌, ◌≢◌, Bool, true, false, not, ◌==◌, List, [], ◌∷◌, ◌++◌, length, Option, Some, None, refl, sym, ap, ◌∙◌, subst, arith, append_assoc, codes, cond}
 use Rattle.std.specs.List.{All, flat_map}
 use Rattle.std.specs.Fmt.{signed_decimal}
 use Rattle.std.proofs.lemmas.Bool.{eqb-true}
 use Rattle.std.proofs.lemmas.List.Elements.{All-nil, All-cons, All-head, All-tail}
-use Rattle.aseba_tree.specs.Inside.{InsideParam, InsideNative, IsUpTo, IsShort, native_message_len}
+use Rattle.aseba_tree.specs.Inside.{InsideParam, InsideNative}
 use Rattle.aseba_tree.specs.declared.description.Param.{Param}
 use Rattle.aseba_tree.specs.declared.description.Native.{Native}
 use Rattle.aseba_describe.specs.Names.{is_name, is_text, is_same}
 use Rattle.aseba_describe.specs.Plain.{IsCell, PlainParam, PlainNative}
 use Rattle.aseba_describe.specs.Spelling.{param_text}
-use Rattle.aseba_describe.specs.Reading.{when, cut, ◌>>=◌, cell_of, name_of, text_of, is_zero, param_of, next_of, params_of, params_with, native_of}
-use Rattle.aseba_describe.proofs.Options.{when_takes, when_true, and_takes, bind_takes, bind_some}
+use Rattle.aseba_describe.specs.Reading.{◌>>=◌, is_zero, param_of, next_of, params_of, params_with, native_of}
+use Rattle.aseba_describe.proofs.Options.{when_takes, when_true, bind_takes, bind_some}
 use Rattle.aseba_describe.proofs.Numbers.{same_is}
 use Rattle.aseba_describe.proofs.Spelled.{some_is, cut_takes, cut_again, name_has_no_blank, name_again, cell_again, cell_takes, cell_has_no_blank, cell_is_no_end, leb_from, leb_to, short_is, short_text}
 

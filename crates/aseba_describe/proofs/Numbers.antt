@@ -1,9 +1,9 @@
 -- A number has one spelling, and that spelling is read as the number.
-use Rattle.std.proofs.Common.{◌≡◌, ℕ, ◌<◌, ◌≤◌, ◌^◌, Bool, true, false, ◌&&◌, List, [], ◌∷◌, Option, Some, None, refl, sym, ◌∙◌, ap, arith, decimal, nat_lt, nat_eq, subst}
+use Rattle.std.proofs.Common.{◌≡◌, ℕ, ◌<◌, true, ◌&&◌, List, Option, Some, None, refl, sym, ◌∙◌, ap, arith, decimal, nat_lt}
 use Rattle.std.specs.Str.Parse.{digits_value}
 use Rattle.std.proofs.lemmas.Fmt.{decimal_is_IsNumeral}
 use Rattle.std.proofs.lemmas.Grind.{common_steps}
-use Rattle.std.specs.Cmp.Lexicographic.{bytes_decides, pointwise}
+use Rattle.std.specs.Cmp.Lexicographic.{bytes_decides}
 use Rattle.aseba_describe.specs.Names.{is_same}
 use Rattle.aseba_describe.specs.Reading.{number_of, when}
 use Rattle.aseba_describe.proofs.Options.{when_takes, when_true, and_takes, and_true}

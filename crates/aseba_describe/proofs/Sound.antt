@@ -1,6 +1,6 @@
 -- What lines say, one behind the other, is what the project says that they come to.
-use Rattle.std.proofs.Common.{◌≡◌, ℕ, zero, suc, ◌+◌, ◌-◌, ◌<◌, ◌≤◌, ◌==◌, Bool, true, false, not, ◌&&◌, nat_le, nat_lt, List, [], ◌∷◌, ◌++◌, length, take, map, Option, Some, None, refl, sym, ap, ◌∙◌, subst, arith, append_assoc, append-nil, length-append}
-use Rattle.std.specs.List.{All, sum_by}
+use Rattle.std.proofs.Common.{◌≡◌, ℕ, ◌+◌, ◌<◌, ◌≤◌, true, nat_lt, List, [], ◌∷◌, ◌++◌, length, take, map, Some, refl, sym, ap, ◌∙◌, subst, arith, append_assoc, append-nil, length-append}
+use Rattle.std.specs.List.{All}
 use Rattle.std.proofs.lemmas.Bool.{eqb-true}
 use Rattle.std.proofs.lemmas.Grind.{common_steps}
 use Rattle.std.proofs.lemmas.List.{map-append, take_all}
@@ -11,7 +11,6 @@ use Rattle.aseba_tree.specs.declared.description.Sized.{Sized}
 use Rattle.aseba_tree.specs.declared.description.Local.{Local}
 use Rattle.aseba_tree.specs.declared.description.Native.{Native}
 use Rattle.aseba_tree.specs.declared.project.Const.{Const}
-use Rattle.aseba_tree.specs.declared.project.Project.{Project}
 use Rattle.aseba_describe.specs.declared.entry.Entry.{Entry}
 use Rattle.aseba_describe.specs.declared.entry.Entry.TheVariants as entry
 use Rattle.aseba_describe.specs.declared.draft.Draft.{Draft}
@@ -21,7 +20,7 @@ use Rattle.aseba_describe.specs.Kinds.{rank_of, may_follow}
 use Rattle.aseba_describe.specs.Names.{IsName, are_distinct}
 use Rattle.aseba_describe.specs.Plain.{PlainSized, PlainLocal, PlainNative, PlainConst, IsPlain, cell_names, event_names, native_names}
 use Rattle.aseba_describe.specs.Spelling.{node_entries, entries}
-use Rattle.aseba_describe.specs.Reading.{◌>>=◌, is_new, with_variable, with_local, with_native, with_event, with_const, with_entry, empty_draft, project_of}
+use Rattle.aseba_describe.specs.Reading.{is_new, with_variable, with_local, with_native, with_event, with_const, with_entry, empty_draft, project_of}
 use Rattle.aseba_describe.proofs.Options.{when_takes, and_takes, bind_takes}
 use Rattle.aseba_describe.proofs.Apart.{distinct_more}
 use Rattle.aseba_describe.proofs.EntryLaws.{PlainEntry}

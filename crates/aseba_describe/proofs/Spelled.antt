@@ -1,10 +1,10 @@
 -- Each field is read from its spelling, and what is read is spelled so.
-use Rattle.std.proofs.Common.{◌≡◌, ℕ, ℤ, pos, negsuc, zero, suc, ◌+◌, ◌-◌, ◌<◌, ◌≤◌, ◌≢◌, ◌≤ℤ◌, ◌^◌, Bool, true, false, not, ◌&&◌, ◌==◌, nat_le, List, [], ◌∷◌, ◌++◌, length, get_or, Option, Some, None, refl, sym, ap, ◌∙◌, subst, arith, append_assoc, codes, decimal, cond, IsTrue}
+use Rattle.std.proofs.Common.{◌≡◌, ℕ, ℤ, pos, negsuc, suc, ◌-◌, ◌<◌, ◌≤◌, ◌≢◌, ◌^◌, Bool, true, false, not, ◌==◌, nat_le, List, [], ◌∷◌, ◌++◌, length, get_or, Option, Some, None, refl, sym, ap, ◌∙◌, subst, arith, append_assoc, codes, decimal, cond}
 use Rattle.std.specs.Option.{option_map}
 use Rattle.std.specs.List.{list_all}
 use Rattle.std.specs.Fmt.{signed_decimal}
-use Rattle.std.specs.Str.Parse.{digits_value, AllDigits}
-use Rattle.std.proofs.lemmas.Bool.{eq-eqb, eqb-true}
+use Rattle.std.specs.Str.Parse.{AllDigits}
+use Rattle.std.proofs.lemmas.Bool.{eqb-true}
 use Rattle.std.proofs.lemmas.Fmt.{decimal_is_IsNumeral}
 use Rattle.std.proofs.lemmas.Str.Parse.{numerals_by_value, tells_digits, not_in_digits}
 use Rattle.std.proofs.lemmas.Grind.{common_steps}
@@ -16,7 +16,7 @@ use Rattle.aseba_tree.specs.declared.project.Const.{Const}
 use Rattle.aseba_tree.specs.Tokens.{is_name_start, is_word_byte}
 use Rattle.aseba_describe.specs.Names.{is_name, is_text, is_same}
 use Rattle.aseba_describe.specs.Plain.{IsCell}
-use Rattle.aseba_describe.specs.Reading.{when, cut, ◌>>=◌, number_of, number_from, cell_of, below_zero, from_zero, name_of, text_of, sized_of, local_of, const_of}
+use Rattle.aseba_describe.specs.Reading.{cut, number_from, cell_of, below_zero, from_zero, name_of, sized_of, local_of, const_of}
 use Rattle.aseba_describe.proofs.Options.{when_takes, when_true, and_takes, and_true, bind_takes, bind_some}
 use Rattle.aseba_describe.proofs.Numbers.{number_takes, number_again, same_is}
 

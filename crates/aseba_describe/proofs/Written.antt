@@ -1,6 +1,6 @@
 -- What is written for a plain project is a text of it.
-use Rattle.std.proofs.Common.{◌≡◌, ℕ, ℤ, pos, negsuc, zero, suc, ◌-◌, ◌<◌, ◌≤◌, ◌≢◌, ◌==◌, ◌↔◌, Bool, IsTrue, true, false, not, ◌&&◌, List, [], ◌∷◌, ◌++◌, length, get_or, map, refl, sym, ap, ◌∙◌, arith, append_assoc, codes, decimal, cond, take}
-use Rattle.std.specs.List.{list_all, flat_map, filter, All}
+use Rattle.std.proofs.Common.{◌≡◌, ℕ, ℤ, pos, negsuc, zero, suc, ◌-◌, ◌≤◌, ◌≢◌, ◌==◌, ◌↔◌, Bool, IsTrue, true, false, not, List, [], ◌∷◌, ◌++◌, length, get_or, map, refl, sym, ap, ◌∙◌, arith, append_assoc, codes, decimal, cond, take}
+use Rattle.std.specs.List.{list_all, flat_map, All}
 use Rattle.std.specs.Fmt.{signed_decimal}
 use Rattle.std.specs.Str.Lines.{lines, strip_carriage_return}
 use Rattle.std.proofs.lemmas.Bool.{eqb-true}
@@ -15,7 +15,7 @@ use Rattle.aseba_describe.specs.declared.entry.Entry.TheVariants as entry
 use Rattle.aseba_describe.specs.Names.{is_name, is_text}
 use Rattle.aseba_describe.specs.Plain.{IsCell, PlainParam, IsPlain}
 use Rattle.aseba_describe.specs.Spelling.{param_text, entry_text, entry_line, entries, project_text}
-use Rattle.aseba_describe.specs.Grammar.{is_skipped, spoken, ProjectText}
+use Rattle.aseba_describe.specs.Grammar.{spoken, ProjectText}
 use Rattle.aseba_describe.proofs.Options.{and_takes, and_true}
 use Rattle.aseba_describe.proofs.EntryLaws.{PlainEntry, speaks}
 use Rattle.aseba_describe.proofs.Complete.{plain_entries}

@@ -1,11 +1,9 @@
 -- The project that stands where none is named.
 use Rattle.std.specs.Prelude.{ℕ, ℤ, pos, negsuc, List, [], ◌∷◌, ◌++◌, codes}
 use Rattle.aseba_tree.specs.declared.description.Sized.{Sized}
-use Rattle.aseba_tree.specs.declared.description.Local.{Local}
 use Rattle.aseba_tree.specs.declared.description.Param.{Param}
 use Rattle.aseba_tree.specs.declared.description.Native.{Native}
 use Rattle.aseba_tree.specs.declared.description.Description.{Description}
-use Rattle.aseba_tree.specs.declared.project.Const.{Const}
 use Rattle.aseba_tree.specs.declared.project.Project.{Project}
 
 abbrev pub sized : List ℕ → ℕ → Sized

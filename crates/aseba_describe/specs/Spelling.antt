@@ -5,7 +5,6 @@ use Rattle.aseba_tree.specs.declared.description.Sized.{Sized}
 use Rattle.aseba_tree.specs.declared.description.Local.{Local}
 use Rattle.aseba_tree.specs.declared.description.Param.{Param}
 use Rattle.aseba_tree.specs.declared.description.Native.{Native}
-use Rattle.aseba_tree.specs.declared.description.Description.{Description}
 use Rattle.aseba_tree.specs.declared.project.Const.{Const}
 use Rattle.aseba_tree.specs.declared.project.Project.{Project}
 use Rattle.aseba_describe.specs.declared.entry.Entry.{Entry}

@@ -1,4 +1,4 @@
-use Rattle.std.proofs.Common.{◌≡◌, ◌<◌, ◌^◌, rules, arith, sym, ap, ◌∙◌, decimal}
+use Rattle.std.proofs.Common.{◌≡◌, arith, sym, ap, ◌∙◌, decimal}
 use Rattle.std.proofs.lemmas.Fmt.{parse-decimal}
 use Rattle.aseba_describe.proofs.Numbers.{no_number, some_number, same_is, is_same_from}
 use Rattle.aseba_describe.proofs.fields.number_in.Goals as goal

@@ -1,6 +1,5 @@
-use Rattle.std.proofs.Common.{◌≡◌, [], ◌∷◌, ◌++◌, Option, Some, None, ap, ◌∙◌, ◌-◌}
+use Rattle.std.proofs.Common.{Some, ap, ◌∙◌}
 use Rattle.std.proofs.lemmas.Result.{err_from_is_err_and}
-use Rattle.aseba_describe.specs.Reading.{next_of}
 use Rattle.aseba_describe.proofs.Params.{room_ends, room_fails, room_goes, room_done}
 use Rattle.aseba_describe.proofs.fields.params.Goals as goal
 
