@@ -1,1 +1,5 @@
+pub mod Commas
+pub mod Growth
 pub mod Laws
+pub mod Levels
+pub mod Loops

@@ -1,0 +1,65 @@
+-- What the calls of the parser answer, against what a parser reads.
+use Rattle.std.specs.Prelude.{◌≡◌, ℕ, Bool, true, false, List, [], ◌∷◌, ◌++◌, map, Option, Some, None, Result, Ok, Err}
+use Rattle.std.specs.Borrow.{Bor}
+use Rattle.aseba_tree.specs.declared.token.Token.{Token}
+use Rattle.aseba_tree.specs.declared.token.TokenKind.{TokenKind}
+use Rattle.aseba_tree.specs.Code.{Project}
+use Rattle.aseba_parser.specs.declared.fault.Fault.{Fault}
+use Rattle.aseba_parser.specs.declared.fault.Fault.TheVariants as fault
+use Rattle.aseba_parser.specs.declared.tokens.Named.{Named}
+use Rattle.aseba_parser.specs.declared.operators.InfixToken.{InfixToken}
+use Rattle.aseba_parser.specs.Reading as reading
+use Rattle.aseba_parser.specs.Reading.{Read, taken, wrong, deep, next, level_read, inside_of, block_of, expr_read, stmts_read, other_read, infix_at, goes_on}
+use Rattle.aseba_tree.specs.Spells.{any_level}
+
+-- the reading stops with that fault; want of memory tells nothing of it
+abbrev pub Stops : {A : Type 0} → Read A → Fault → Type 0
+Stops read (fault.Syntax rest) = read ≡ wrong rest.now
+Stops read (fault.TooDeep rest) = read ≡ deep rest.now
+Stops read fault.Mem = Unit {0}
+
+-- the call answers what is read, each value by its view, with the tokens behind it
+abbrev pub Answers : {T A : Type 0} → (T → A) → Read A → Result (T × Bor (List Token)) Fault → Type 0
+Answers view read (Ok found) = read ≡ taken (view found.0) found.1.now
+Answers view read (Err fault) = Stops read fault
+
+-- the call adds what is read at the end of a list, and answers the tokens behind it
+abbrev pub Adds : {T A : Type 0} → (T → A) → Read A → List T → List T → Result (Bor (List Token)) Fault → Type 0
+Adds view read before after (Ok rest) = next read (λ a behind. taken (map view before ++ a ∷ []) behind) ≡ taken (map view after) rest.now
+Adds view read before after (Err fault) = Stops read fault
+
+-- whether the first token is of that kind
+abbrev pub begins_with : (TokenKind → Bool) → List Token → Bool
+begins_with fits [] = false
+begins_with fits (t ∷ rest) = fits t.kind
+
+-- the tokens behind the first, where that is of that kind
+abbrev pub IsBehind : (TokenKind → Bool) → List Token → Option (Bor (List Token)) → Type 0
+IsBehind fits tokens (Some rest) = (t : Token) × (tokens ≡ t ∷ rest.now) × (fits t.kind ≡ true)
+IsBehind fits tokens None = begins_with fits tokens ≡ false
+
+abbrev pub named_view : Named → reading.Named
+named_view n = record { token = n.token.now; name = n.name.now }
+
+-- how many levels may be opened inside an expression, or that none may
+abbrev pub OpensExprs : ℕ → List Token → Result ℕ Fault → Type 0
+OpensExprs depth tokens (Ok inside) = inside_of depth ≡ Some (level_read (inside_of inside))
+OpensExprs depth tokens (Err (fault.Syntax rest)) = ⊥
+OpensExprs depth tokens (Err (fault.TooDeep rest)) = (inside_of depth ≡ None) × (rest.now ≡ tokens)
+OpensExprs depth tokens (Err fault.Mem) = ⊥
+
+-- the same of a block
+abbrev pub OpensBlocks : Project → ℕ → List Token → Result ℕ Fault → Type 0
+OpensBlocks project depth tokens (Ok inside) = block_of project depth ≡ Some (record {
+  expr = expr_read inside any_level;
+  stmts = stmts_read project inside (block_of project inside);
+  other = other_read project inside (block_of project inside);
+})
+OpensBlocks project depth tokens (Err (fault.Syntax rest)) = ⊥
+OpensBlocks project depth tokens (Err (fault.TooDeep rest)) = (block_of project depth ≡ None) × (rest.now ≡ tokens)
+OpensBlocks project depth tokens (Err fault.Mem) = ⊥
+
+-- the operator of a level at the front, with its token and what is behind it
+abbrev pub IsInfix : ℕ → List Token → Option InfixToken → Type 0
+IsInfix level tokens (Some found) = (tokens ≡ found.token.now ∷ found.rest.now) × (infix_at level found.token.now.kind ≡ Some found.op)
+IsInfix level tokens None = begins_with (goes_on level) tokens ≡ false
