@@ -28,7 +28,7 @@ first-by read grown tokens rest found =
     let inner = from-taken (read any_level tokens) (λ a. [] ++ a ∷ []) grown rest found in
     let start = at-start (is_sign Sign.Comma) (another read) (λ others behind. taken (exprs_of (inner.0 ∷ others)) behind) rest in
     subst (λ (d : List Expr). Lists read d rest (list_read read tokens)) inner.2
-        (subst (λ (r : Read Expr). Lists read (inner.0 ∷ []) rest (next r (λ e after. next (all_of (is_sign Sign.Comma) (another read) after) (λ others behind. taken (exprs_of (e ∷ others)) behind)))) (sym inner.1) start)
+    (subst (λ (r : Read Expr). Lists read (inner.0 ∷ []) rest (next r (λ e after. next (all_of (is_sign Sign.Comma) (another read) after) (λ others behind. taken (exprs_of (e ∷ others)) behind)))) (sym inner.1) start)
 
 pub first-listed : (read : ℕ → List Token → Read Expr) (before grown : List Expr) (tokens rest : List Token) → before ≡ [] → next (read any_level tokens) (λ a behind. taken (before ++ a ∷ []) behind) ≡ taken grown rest
     → Lists read grown rest (list_read read tokens)
@@ -44,13 +44,13 @@ pub lists-on : (read : ℕ → List Token → Read Expr) (done grown : List Expr
     → Lists read grown after whole
 lists-on read done grown left whole t rest after h is comma found shorter =
     gathers-on (is_sign Sign.Comma) (another read) (λ all behind. taken (exprs_of all) behind) done grown left whole t rest after h is comma
-        (ap (λ (r : Read Expr). next r (λ a behind. taken (done ++ a ∷ []) behind)) (another-is read t rest comma) ∙ found) shorter
+    (ap (λ (r : Read Expr). next r (λ a behind. taken (done ++ a ∷ []) behind)) (another-is read t rest comma) ∙ found) shorter
 
 pub listing-stops : (read : ℕ → List Token → Read Expr) (done : List Expr) (left : List Token) (whole : Read Exprs) (t : Token) (rest : List Token) (e : Fault)
     → Lists read done left whole → left ≡ t ∷ rest → is_sign Sign.Comma t.kind ≡ true → Stops (next (read any_level rest) (λ a behind. taken (done ++ a ∷ []) behind)) e → Stops whole e
 listing-stops read done left whole t rest e h is comma found =
     stops-there (is_sign Sign.Comma) (another read) (λ others behind. taken (exprs_of (done ++ others)) behind) left whole t rest e h is comma
-        (subst (λ (r : Read Expr). Stops r e) (sym (another-is read t rest comma)) (from-stop (read any_level rest) (λ a. done ++ a ∷ []) e found))
+    (subst (λ (r : Read Expr). Stops r e) (sym (another-is read t rest comma)) (from-stop (read any_level rest) (λ a. done ++ a ∷ []) e found))
 
 pub listed : (read : ℕ → List Token → Read Expr) (done : List Expr) (left : List Token) (whole : Read Exprs) → Lists read done left whole → begins_with (is_sign Sign.Comma) left ≡ false
     → whole ≡ taken (exprs_of done) left

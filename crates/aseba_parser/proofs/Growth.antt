@@ -28,9 +28,9 @@ pub grows-on : (level : ℕ) (tighter : List Token → Read Expr) (l grown : Exp
 grows-on level tighter l grown left whole t rest after op h is begun found shorter =
     let inner = from-taken (tighter rest) (with-right l t op) grown after found in
     let read : operation level tighter (t ∷ rest) ≡ taken (record { token = t; op = op; right = inner.0 }) after =
-        operation-is level tighter t rest op begun ∙ ap (λ r. next r (λ r behind. taken (record { token = t; op = op; right = r }) behind)) inner.1 in
+    operation-is level tighter t rest op begun ∙ ap (λ r. next r (λ r behind. taken (record { token = t; op = op; right = r }) behind)) inner.1 in
     subst (λ (e : Expr). Grows level tighter e after whole) inner.2
-        (goes-on (goes_on level) (operation level tighter) (λ others behind. taken (grouped l others) behind) left whole t rest (record { token = t; op = op; right = inner.0 }) after h is (ap (λ o. is_there o) begun) read shorter)
+    (goes-on (goes_on level) (operation level tighter) (λ others behind. taken (grouped l others) behind) left whole t rest (record { token = t; op = op; right = inner.0 }) after h is (ap (λ o. is_there o) begun) read shorter)
 
 pub growth-stops : (level : ℕ) (tighter : List Token → Read Expr) (l : Expr) (left : List Token) (whole : Read Expr) (t : Token) (rest : List Token) (op : Binary) (e : Fault)
     → Grows level tighter l left whole → left ≡ t ∷ rest → infix_at level t.kind ≡ Some op → Stops (next (tighter rest) (λ r behind. taken (with-right l t op r) behind)) e → Stops whole e

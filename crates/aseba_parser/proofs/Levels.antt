@@ -13,7 +13,7 @@ pub unprefixed-at : (inside : Inside) (level : ℕ) (tokens : List Token) (t : T
     → level_read inside level tokens ≡ unprefixed level (level_read inside (level - 1)) tokens
 unprefixed-at inside level tokens t rest least is none =
     subst (λ (l : List Token). level_read inside level l ≡ unprefixed level (level_read inside (level - 1)) l) (sym is)
-        (step-of inside level (t ∷ rest) least ∙ ap (λ o. prefixed_by inside level (level_read inside (level - 1)) t rest o) none)
+    (step-of inside level (t ∷ rest) least ∙ ap (λ o. prefixed_by inside level (level_read inside (level - 1)) t rest o) none)
 
 pub unprefixed-none : (inside : Inside) (level : ℕ) (tokens : List Token) → 1 ≤ level → length tokens ≡ 0 → level_read inside level tokens ≡ unprefixed level (level_read inside (level - 1)) tokens
 unprefixed-none inside level [] least empty = step-of inside level [] least

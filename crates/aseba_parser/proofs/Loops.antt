@@ -18,7 +18,7 @@ pub at-start : {A B : Type 0} (begins : TokenKind → Bool) (read : List Token �
     → GoesOn begins read use_all tokens (next (all_of begins read tokens) use_all)
 at-start begins read use_all tokens = record { turns = length tokens; enough = omega arith; same = refl }
 
-next-next : {A B C : Type 0} (r : Read A) (f : A → List Token → Read B) (g : B → List Token → Read C) → next (next r f) g ≡ next r (λ a rest. next (f a rest) g)
+pub next-next : {A B C : Type 0} (r : Read A) (f : A → List Token → Read B) (g : B → List Token → Read C) → next (next r f) g ≡ next r (λ a rest. next (f a rest) g)
 next-next (taken a rest) f g = refl
 next-next (wrong rest) f g = refl
 next-next (deep rest) f g = refl
@@ -39,11 +39,11 @@ turn : {A B : Type 0} (begins : TokenKind → Bool) (read : List Token → Read 
     → next (many begins read (suc turns) (t ∷ rest)) use_all ≡ next (read (t ∷ rest)) (λ a after. next (many begins read turns after) (λ others behind. use_all (a ∷ others) behind))
 turn begins read use_all turns t rest begun =
     subst
-        (λ (b : Bool). next (elim b [ true ↦ next (read (t ∷ rest)) (λ a after. next (many begins read turns after) (λ others behind. taken (a ∷ others) behind)) | false ↦ taken [] (t ∷ rest) ]) use_all
-            ≡ next (read (t ∷ rest)) (λ a after. next (many begins read turns after) (λ others behind. use_all (a ∷ others) behind)))
-        (sym begun)
-        (next-next (read (t ∷ rest)) (λ a after. next (many begins read turns after) (λ others behind. taken (a ∷ others) behind)) use_all
-            ∙ next-same (read (t ∷ rest)) _ _ (λ a after. next-next (many begins read turns after) (λ others behind. taken (a ∷ others) behind) use_all))
+    (λ (b : Bool). next (elim b [ true ↦ next (read (t ∷ rest)) (λ a after. next (many begins read turns after) (λ others behind. taken (a ∷ others) behind)) | false ↦ taken [] (t ∷ rest) ]) use_all
+    ≡ next (read (t ∷ rest)) (λ a after. next (many begins read turns after) (λ others behind. use_all (a ∷ others) behind)))
+    (sym begun)
+    (next-next (read (t ∷ rest)) (λ a after. next (many begins read turns after) (λ others behind. taken (a ∷ others) behind)) use_all
+    ∙ next-same (read (t ∷ rest)) _ _ (λ a after. next-next (many begins read turns after) (λ others behind. taken (a ∷ others) behind) use_all))
 
 end-of : {A B : Type 0} (begins : TokenKind → Bool) (read : List Token → Read A) (use_all : List A → List Token → Read B) (turns : ℕ) (left : List Token) → begins_with begins left ≡ false
     → next (many begins read turns left) use_all ≡ use_all [] left
@@ -51,9 +51,9 @@ end-of begins read use_all zero left none = refl
 end-of begins read use_all (suc turns) [] none = refl
 end-of begins read use_all (suc turns) (t ∷ rest) none =
     subst
-        (λ (b : Bool). next (elim b [ true ↦ next (read (t ∷ rest)) (λ a after. next (many begins read turns after) (λ others behind. taken (a ∷ others) behind)) | false ↦ taken [] (t ∷ rest) ]) use_all
-            ≡ use_all [] (t ∷ rest))
-        (sym none) refl
+    (λ (b : Bool). next (elim b [ true ↦ next (read (t ∷ rest)) (λ a after. next (many begins read turns after) (λ others behind. taken (a ∷ others) behind)) | false ↦ taken [] (t ∷ rest) ]) use_all
+    ≡ use_all [] (t ∷ rest))
+    (sym none) refl
 
 taken-turn : {A B : Type 0} (begins : TokenKind → Bool) (read : List Token → Read A) (use_all : List A → List Token → Read B) (turns : ℕ) (t : Token) (rest : List Token) (whole : Read B) (a : A) (after : List Token)
     → length (t ∷ rest) ≤ turns → next (many begins read turns (t ∷ rest)) use_all ≡ whole → begins t.kind ≡ true → read (t ∷ rest) ≡ taken a after → length after ≤ length rest
@@ -126,9 +126,9 @@ pub gathers-on : {A B : Type 0} (begins : TokenKind → Bool) (read : List Token
 gathers-on begins read use_all done grown left whole t rest after h is begun found shorter =
     let inner = from-taken (read (t ∷ rest)) (λ a. done ++ a ∷ []) grown after found in
     subst (λ (d : List _). Gathers begins read use_all d after whole) inner.2
-        (used-as begins read (λ others behind. use_all (done ++ inner.0 ∷ others) behind) (λ others behind. use_all ((done ++ inner.0 ∷ []) ++ others) behind) after whole
-            (λ others behind. ap (λ all. use_all all behind) (append_assoc done (inner.0 ∷ []) others))
-            (goes-on begins read (λ others behind. use_all (done ++ others) behind) left whole t rest inner.0 after h is begun inner.1 shorter))
+    (used-as begins read (λ others behind. use_all (done ++ inner.0 ∷ others) behind) (λ others behind. use_all ((done ++ inner.0 ∷ []) ++ others) behind) after whole
+    (λ others behind. ap (λ all. use_all all behind) (append_assoc done (inner.0 ∷ []) others))
+    (goes-on begins read (λ others behind. use_all (done ++ others) behind) left whole t rest inner.0 after h is begun inner.1 shorter))
 
 pub gathered : {A B : Type 0} (begins : TokenKind → Bool) (read : List Token → Read A) (use_all : List A → List Token → Read B) (done : List A) (left : List Token) (whole : Read B)
     → Gathers begins read use_all done left whole → begins_with begins left ≡ false → whole ≡ use_all done left

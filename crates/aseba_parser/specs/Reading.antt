@@ -81,14 +81,16 @@ list_read read tokens = next (read any_level tokens) (λ e after. next (all_of (
 abbrev pub index_end : (ℕ → List Token → Read Expr) → Expr → List Token → Read Part
 index_end read e [] = wrong []
 index_end read e (t ∷ rest) = elim (is_sign Sign.Colon t.kind) [
-    true ↦ next (read any_level rest) (λ d after. next (expected (is_sign Sign.CloseBracket) after) (λ closing behind. taken (span e d) behind))
-  | false ↦ next (expected (is_sign Sign.CloseBracket) (t ∷ rest)) (λ closing behind. taken (at e) behind) ]
+  | true ↦ next (read any_level rest) (λ d after. next (expected (is_sign Sign.CloseBracket) after) (λ closing behind. taken (span e d) behind))
+  | false ↦ next (expected (is_sign Sign.CloseBracket) (t ∷ rest)) (λ closing behind. taken (at e) behind)
+]
 
 abbrev pub part_read : Inside → List Token → Read Part
 part_read inside [] = taken all []
 part_read inside (t ∷ rest) = elim (is_sign Sign.OpenBracket t.kind) [
-    true ↦ opened inside (t ∷ rest) (λ read. next (read any_level rest) (λ e after. index_end read e after))
-  | false ↦ taken all (t ∷ rest) ]
+  | true ↦ opened inside (t ∷ rest) (λ read. next (read any_level rest) (λ e after. index_end read e after))
+  | false ↦ taken all (t ∷ rest)
+]
 
 abbrev pub target_read : Inside → List Token → Read Target
 target_read inside tokens = next (named tokens) (λ n rest. next (part_read inside rest) (λ part behind. taken (record { place = place n.token; name = n.name; part = part }) behind))
@@ -98,10 +100,12 @@ leaf_by inside t rest (TokenKind.Number v) = taken (expr (place t) (place t) (nu
 leaf_by inside t rest (TokenKind.Name name) = next (target_read inside (t ∷ rest)) (λ target behind. taken (target_expr target) behind)
 leaf_by inside t rest (TokenKind.Key key) = wrong (t ∷ rest)
 leaf_by inside t rest (TokenKind.Sign sign) = elim (sameb sign_type.the_type sign Sign.OpenParen) [
-    true ↦ opened inside (t ∷ rest) (λ read. next (read any_level rest) (λ e after. next (expected (is_sign Sign.CloseParen) after) (λ closing behind. taken (begun_at (place t) e) behind)))
+  | true ↦ opened inside (t ∷ rest) (λ read. next (read any_level rest) (λ e after. next (expected (is_sign Sign.CloseParen) after) (λ closing behind. taken (begun_at (place t) e) behind)))
   | false ↦ elim (sameb sign_type.the_type sign Sign.OpenBracket) [
-      true ↦ opened inside (t ∷ rest) (λ read. next (list_read read rest) (λ es after. next (expected (is_sign Sign.CloseBracket) after) (λ closing behind. taken (expr (place t) (place t) (items es)) behind)))
-    | false ↦ wrong (t ∷ rest) ] ]
+    | true ↦ opened inside (t ∷ rest) (λ read. next (list_read read rest) (λ es after. next (expected (is_sign Sign.CloseBracket) after) (λ closing behind. taken (expr (place t) (place t) (items es)) behind)))
+    | false ↦ wrong (t ∷ rest)
+  ]
+]
 
 abbrev pub leaf : Inside → List Token → Read Expr
 leaf inside [] = wrong []
@@ -246,8 +250,9 @@ callsub_read t rest = next (named rest) (λ n behind. taken (stmt t.at.line (pla
 abbrev pub arguments_read : (ℕ → List Token → Read Expr) → List Token → Read Exprs
 arguments_read read [] = wrong []
 arguments_read read (t ∷ rest) = elim (is_sign Sign.CloseParen t.kind) [
-    true ↦ taken (exprs_of []) rest
-  | false ↦ next (list_read read (t ∷ rest)) (λ es after. next (expected (is_sign Sign.CloseParen) after) (λ closing behind. taken es behind)) ]
+  | true ↦ taken (exprs_of []) rest
+  | false ↦ next (list_read read (t ∷ rest)) (λ es after. next (expected (is_sign Sign.CloseParen) after) (λ closing behind. taken es behind))
+]
 
 -- the arguments of a call with their parentheses
 abbrev pub enclosed_read : Inside → List Token → Read Exprs
@@ -316,8 +321,9 @@ block_of project (suc depth) = Some (record {
 abbrev pub size_read : ℕ → List Token → Read (Option Expr)
 size_read depth [] = taken None []
 size_read depth (t ∷ rest) = elim (is_sign Sign.OpenBracket t.kind) [
-    true ↦ opened (inside_of depth) (t ∷ rest) (λ read. next (read any_level rest) (λ e after. next (expected (is_sign Sign.CloseBracket) after) (λ closing behind. taken (Some e) behind)))
-  | false ↦ taken None (t ∷ rest) ]
+  | true ↦ opened (inside_of depth) (t ∷ rest) (λ read. next (read any_level rest) (λ e after. next (expected (is_sign Sign.CloseBracket) after) (λ closing behind. taken (Some e) behind)))
+  | false ↦ taken None (t ∷ rest)
+]
 
 -- the value of a declaration with the place of its sign, or with its name's where there is none
 pub record Given : Type 0 where
@@ -327,8 +333,9 @@ pub record Given : Type 0 where
 abbrev pub value_read : ℕ → Place → List Token → Read Given
 value_read depth named_at [] = taken (record { equals = named_at; value = None }) []
 value_read depth named_at (t ∷ rest) = elim (is_sign Sign.Assign t.kind) [
-    true ↦ next (expr_read depth any_level rest) (λ e behind. taken (record { equals = place t; value = Some e }) behind)
-  | false ↦ taken (record { equals = named_at; value = None }) (t ∷ rest) ]
+  | true ↦ next (expr_read depth any_level rest) (λ e behind. taken (record { equals = place t; value = Some e }) behind)
+  | false ↦ taken (record { equals = named_at; value = None }) (t ∷ rest)
+]
 
 abbrev pub decl_read : ℕ → List Token → Read Decl
 decl_read depth tokens = next (expected (is_key Key.Var) tokens) (λ word after_word. next (named after_word) (λ n after_name. next (size_read depth after_name) (λ size after.

@@ -82,7 +82,7 @@ fn operation<'t>(
     requires { 1 ≤ level }
     ensures read { Answers expr_view
         (reading.next (reading.expr_read depth (level - 1) found.entry.rest.now)
-            (λ right behind. reading.taken (code.expr (spells.first_of (expr_view left)) (spells.place found.entry.token.now) (code.two found.entry.op (expr_view left) right)) behind))
+        (λ right behind. reading.taken (code.expr (spells.first_of (expr_view left)) (spells.place found.entry.token.now) (code.two found.entry.op (expr_view left) right)) behind))
         result }
     ensures shorter { IfOk result (λ after. length after.1.now < length found.entry.rest.now) }
 {
@@ -123,7 +123,7 @@ fn leaf<'t>(alloc: Global, depth: u8, tokens: &'t [Token]) -> Parsed<'t, Expr>
 fn parenthesised<'t>(alloc: Global, inside: u8, at: Pos, tokens: &'t [Token]) -> Parsed<'t, Expr>
     ensures read { Answers expr_view
         (reading.next (reading.expr_read inside spells.any_level tokens.now)
-            (λ e after. reading.next (reading.expected (reading.is_sign Sign.CloseParen) after) (λ closing behind. reading.taken (spells.begun_at (place_view at) e) behind)))
+        (λ e after. reading.next (reading.expected (reading.is_sign Sign.CloseParen) after) (λ closing behind. reading.taken (spells.begun_at (place_view at) e) behind)))
         result }
     ensures shorter { IfOk result (λ found. length found.1.now < length tokens.now) }
 {
@@ -137,8 +137,8 @@ fn parenthesised<'t>(alloc: Global, inside: u8, at: Pos, tokens: &'t [Token]) ->
 fn bracketed<'t>(alloc: Global, inside: u8, at: Pos, tokens: &'t [Token]) -> Parsed<'t, Expr>
     ensures read { Answers expr_view
         (reading.next (reading.list_read (reading.expr_read inside) tokens.now)
-            (λ es after. reading.next (reading.expected (reading.is_sign Sign.CloseBracket) after)
-                (λ closing behind. reading.taken (code.expr (place_view at) (place_view at) (code.items es)) behind)))
+        (λ es after. reading.next (reading.expected (reading.is_sign Sign.CloseBracket) after)
+        (λ closing behind. reading.taken (code.expr (place_view at) (place_view at) (code.items es)) behind)))
         result }
     ensures shorter { IfOk result (λ found. length found.1.now < length tokens.now) }
 {
@@ -216,12 +216,7 @@ fn part<'t>(alloc: Global, depth: u8, tokens: &'t [Token]) -> Parsed<'t, Part>
 
 /// What stands behind the first expression in a variable's brackets.
 #[cycle(expr)]
-fn index_end<'t>(
-    alloc: Global,
-    inside: u8,
-    first: Expr,
-    tokens: &'t [Token],
-) -> Parsed<'t, Part>
+fn index_end<'t>(alloc: Global, inside: u8, first: Expr, tokens: &'t [Token]) -> Parsed<'t, Part>
     ensures read { Answers part_view (reading.index_end (reading.expr_read inside) (expr_view first) tokens.now) result }
     ensures shorter { IfOk result (λ found. length found.1.now < length tokens.now) }
 {
