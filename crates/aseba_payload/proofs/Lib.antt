@@ -1,0 +1,9 @@
+pub mod Loop
+pub mod Words
+pub mod Fields
+pub mod Params
+pub mod Layouts
+pub mod RowLaws
+pub mod Verdicts
+pub mod Written
+pub mod Lengths

@@ -1,0 +1,5 @@
+pub mod Layout
+pub mod Rows
+pub mod Decoding
+pub mod Reading
+pub mod Writing

@@ -1,0 +1,21 @@
+//! Messages with their types: what the payload of each frame says, both ways.
+#![tactic(auto)]
+
+mod copying;
+mod decoding;
+mod encoding;
+mod error;
+mod fault;
+mod law;
+mod payload;
+mod reading;
+mod rows;
+#[cfg(test)]
+mod tests;
+mod writing;
+
+pub use decoding::decode;
+pub use encoding::to_frame;
+pub use error::PayloadError;
+pub use law::{native_length, one_meaning};
+pub use payload::Payload;
