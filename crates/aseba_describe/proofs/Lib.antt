@@ -8,6 +8,7 @@ pub mod Folded
 pub mod Keywords
 pub mod Lines
 pub mod NativeLaws
+pub mod NativeLines
 pub mod Numbers
 pub mod Options
 pub mod Params

@@ -1,4 +1,5 @@
 pub mod Names
+pub mod NativeLines
 pub mod Spelling
 pub mod Plain
 pub mod Defaults

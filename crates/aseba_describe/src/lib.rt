@@ -6,6 +6,7 @@ mod draft;
 mod entry;
 mod fault;
 mod fields;
+mod finding;
 mod kind;
 mod known;
 mod lists;
@@ -16,6 +17,7 @@ mod spelling;
 
 pub use defaults::default_project;
 pub use fault::ProjectError;
+pub use finding::native_line;
 pub use plain::is_plain;
 pub use reading::read_project;
 pub use spelling::write_project;

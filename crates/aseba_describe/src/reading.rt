@@ -66,7 +66,7 @@ fn is_skipped(line: &[u8]) -> bool
 }
 
 /// The first line of a text that isn't empty, without its end, and what stands behind it.
-fn first_line(text: &[u8]) -> (&[u8], &[u8])
+pub fn first_line(text: &[u8]) -> (&[u8], &[u8])
     requires { 0 < length text.now }
     ensures first { lines text.now ≡ result.0.now ∷ lines result.1.now }
     ensures shorter { length result.1.now < length text.now }
