@@ -21,21 +21,21 @@ same_text a b h = (bytes_decides a b).0 (true_from_not _ h)
     true_from_not true e = refl
     true_from_not false e = cc
 
--- four words of which the first two are `sim` and `default`
-pub are_words : (words : List (String Global)) (tool project source number : String Global) → length words ≡ 4 → tool ≡ get_or words 0 tool → project ≡ get_or words 1 project → source ≡ get_or words 2 source → number ≡ get_or words 3 number → string_bytes tool ≡ codes "sim" → string_bytes project ≡ codes "default" → map string_bytes words ≡ codes "sim" ∷ codes "default" ∷ string_bytes source ∷ string_bytes number ∷ []
-are_words words tool project source number n a b c d e f =
-    ap (map string_bytes) (four words tool project source number n a b c d) ∙ (λ i. e i ∷ f i ∷ string_bytes source ∷ string_bytes number ∷ [])
+-- four words of which the first is `sim`
+pub are_words : (words : List (String Global)) (tool project source number : String Global) → length words ≡ 4 → tool ≡ get_or words 0 tool → project ≡ get_or words 1 project → source ≡ get_or words 2 source → number ≡ get_or words 3 number → string_bytes tool ≡ codes "sim" → map string_bytes words ≡ codes "sim" ∷ string_bytes project ∷ string_bytes source ∷ string_bytes number ∷ []
+are_words words tool project source number n a b c d e =
+    ap (map string_bytes) (four words tool project source number n a b c d) ∙ (λ i. e i ∷ string_bytes project ∷ string_bytes source ∷ string_bytes number ∷ [])
 
 -- the words of a command line
-pub are_sim : (words : List (List ℕ)) (source number : List ℕ) (ticks : ℕ) → words ≡ codes "sim" ∷ codes "default" ∷ source ∷ number ∷ [] → IsTicks number ticks → IsSim words source ticks
-are_sim words source number ticks e t = record { number = number; words_are = e; ticks_are = t }
+pub are_sim : (words : List (List ℕ)) (project source number : List ℕ) (ticks : ℕ) → words ≡ codes "sim" ∷ project ∷ source ∷ number ∷ [] → IsTicks number ticks → IsSim words project source ticks
+are_sim words project source number ticks e t = record { number = number; words_are = e; ticks_are = t }
 
 last_of : (a b c d a' b' c' d' : List ℕ) → a ∷ b ∷ c ∷ d ∷ [] ≡ a' ∷ b' ∷ c' ∷ d' ∷ [] → d ≡ d'
 last_of a b c d a' b' c' d' e = cc
 
 -- the last word decides
-pub are_no_sim : (words : List (List ℕ)) (source number : List ℕ) → words ≡ codes "sim" ∷ codes "default" ∷ source ∷ number ∷ [] → IsNoTicks number → IsNoSim words
-are_no_sim words source number e t source' ticks s =
+pub are_no_sim : (words : List (List ℕ)) (project source number : List ℕ) → words ≡ codes "sim" ∷ project ∷ source ∷ number ∷ [] → IsNoTicks number → IsNoSim words
+are_no_sim words project source number e t project' source' ticks s =
     let same : number ≡ s.number = last_of _ _ _ _ _ _ _ _ (sym e ∙ s.words_are) in
     t ticks (subst (λ n. IsTicks n ticks) (sym same) s.ticks_are)
 

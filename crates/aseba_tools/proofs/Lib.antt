@@ -1,8 +1,11 @@
+pub mod Alike
 pub mod CommandLemmas
 pub mod Dumping
 pub mod Loading
+pub mod Nodes
 pub mod Outputs
 pub mod Pages
+pub mod Projects
 pub mod Running
 pub mod Simulated
 pub mod Streams

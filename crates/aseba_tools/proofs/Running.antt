@@ -5,7 +5,7 @@ use Rattle.aseba_tree.specs.Line.{Line, lines_text}
 use Rattle.aseba_vm.specs.State.{State}
 use Rattle.aseba_codegen.specs.Table.{Layout}
 use Rattle.aseba_codegen.specs.Table.{Run, is_effect, ticking, all_ticking, beginning}
-use Rattle.aseba_tools.specs.DefaultNode.{default_project}
+use Rattle.aseba_tree.specs.Code.{Project}
 use Rattle.aseba_tools.specs.SimText.{after_tick, silent, IsAt}
 use Rattle.aseba_tools.specs.declared.lines.Moment.{Moment}
 use Rattle.aseba_tools.proofs.Writing.{lines_text-append, took_empty, took_after, first_after}
@@ -13,29 +13,29 @@ use Rattle.aseba_edge.proofs.Puts.{first_of_more}
 use Rattle.aseba_vm.specs.Tick.{ticked}
 
 -- after some of the ticks, with so many left: some lines were written
-pub record InRun (layout : Layout) (first : State) (before : Option (List ℕ)) (ticks done : ℕ) (moment : Moment) (machine : State) (taken : Option (List ℕ)) : Type 0 where
+pub record InRun (project : Project) (layout : Layout) (first : State) (before : Option (List ℕ)) (ticks done : ℕ) (moment : Moment) (machine : State) (taken : Option (List ℕ)) : Type 0 where
   pub lines : List Line
   pub written : Took before (lines_text lines) taken
-  pub goes_on : all_ticking default_project layout [] (ticks - done) (record (silent moment machine) { lines = lines }) ≡ all_ticking default_project layout [] ticks (beginning first)
+  pub goes_on : all_ticking project layout [] (ticks - done) (record (silent moment machine) { lines = lines }) ≡ all_ticking project layout [] ticks (beginning first)
   pub at : moment.ticks ≡ done
   pub few : moment.effects ≤ done
 
 -- a tick tells the same whatever was told before
-ticking-lines : (layout : Layout) (moment : Moment) (machine : State) (lines : List Line) → ticking default_project layout [] (record (silent moment machine) { lines = lines }) ≡ record (after_tick layout moment machine) { lines = lines ++ (after_tick layout moment machine).lines }
-ticking-lines layout moment machine lines = refl
+ticking-lines : (project : Project) (layout : Layout) (moment : Moment) (machine : State) (lines : List Line) → ticking project layout [] (record (silent moment machine) { lines = lines }) ≡ record (after_tick project layout moment machine) { lines = lines ++ (after_tick project layout moment machine).lines }
+ticking-lines project layout moment machine lines = refl
 
 -- the lines that were told stay
-lines_stay : (layout : Layout) (n : ℕ) (run : Run) → (more : List Line) × ((all_ticking default_project layout [] n run).lines ≡ run.lines ++ more)
-lines_stay layout zero run = ([], sym (append-nil run.lines))
-lines_stay layout (suc n) run =
-    let after = lines_stay layout n (ticking default_project layout [] run) in
-    let new = (ticking default_project layout [] (record run { lines = [] })).lines in
+lines_stay : (project : Project) (layout : Layout) (n : ℕ) (run : Run) → (more : List Line) × ((all_ticking project layout [] n run).lines ≡ run.lines ++ more)
+lines_stay project layout zero run = ([], sym (append-nil run.lines))
+lines_stay project layout (suc n) run =
+    let after = lines_stay project layout n (ticking project layout [] run) in
+    let new = (ticking project layout [] (record run { lines = [] })).lines in
     (new ++ after.0, after.1 ∙ append_assoc run.lines new after.0)
 
 -- before the first tick
-pub begins_run : (layout : Layout) (first : State) (before : Option (List ℕ)) (ticks : ℕ) → InRun layout first before ticks 0 (record { ticks = 0; effects = 0 }) first before
-begins_run layout first before ticks =
-    record { lines = []; written = took_empty before; goes_on = (let none : ticks - 0 ≡ ticks = omega arith in ap (λ n. all_ticking default_project layout [] n (beginning first)) none); at = refl; few = omega arith }
+pub begins_run : (project : Project) (layout : Layout) (first : State) (before : Option (List ℕ)) (ticks : ℕ) → InRun project layout first before ticks 0 (record { ticks = 0; effects = 0 }) first before
+begins_run project layout first before ticks =
+    record { lines = []; written = took_empty before; goes_on = (let none : ticks - 0 ≡ ticks = omega arith in ap (λ n. all_ticking project layout [] n (beginning first)) none); at = refl; few = omega arith }
 
 -- a run that is at a moment with a machine, whatever it has told
 at_lines : (run : Run) (moment : Moment) (machine : State) (lines : List Line) → IsAt run moment machine → record run { lines = lines } ≡ record (silent moment machine) { lines = lines }
@@ -49,40 +49,40 @@ few_more true = omega arith
 few_more false = omega arith
 
 -- one more tick
-pub one_more : (layout : Layout) (first : State) (before : Option (List ℕ)) (ticks done : ℕ) (moment : Moment) (machine : State) (mid : Option (List ℕ)) (next : Moment) (machine' : State) (after : Option (List ℕ)) → done < ticks → InRun layout first before ticks done moment machine mid → IsAt (after_tick layout moment machine) next machine' → Took mid (lines_text (after_tick layout moment machine).lines) after → InRun layout first before ticks (done + 1) next machine' after
-one_more layout first before ticks done moment machine mid next machine' after h in_run at took =
-    let one = after_tick layout moment machine in
+pub one_more : (project : Project) (layout : Layout) (first : State) (before : Option (List ℕ)) (ticks done : ℕ) (moment : Moment) (machine : State) (mid : Option (List ℕ)) (next : Moment) (machine' : State) (after : Option (List ℕ)) → done < ticks → InRun project layout first before ticks done moment machine mid → IsAt (after_tick project layout moment machine) next machine' → Took mid (lines_text (after_tick project layout moment machine).lines) after → InRun project layout first before ticks (done + 1) next machine' after
+one_more project layout first before ticks done moment machine mid next machine' after h in_run at took =
+    let one = after_tick project layout moment machine in
     let told = in_run.lines ++ one.lines in
     record {
       lines = told;
       written = subst (λ (t : List ℕ). Took before t after) (sym (lines_text-append in_run.lines one.lines)) (took_after before mid after (lines_text in_run.lines) (lines_text one.lines) in_run.written took);
       goes_on =
-          ap (all_ticking default_project layout [] (ticks - (done + 1))) (sym (at_lines one next machine' told at) ∙ sym (ticking-lines layout moment machine in_run.lines))
-          ∙ ap (λ n. all_ticking default_project layout [] n (record (silent moment machine) { lines = in_run.lines })) (one_less done ticks h)
+          ap (all_ticking project layout [] (ticks - (done + 1))) (sym (at_lines one next machine' told at) ∙ sym (ticking-lines project layout moment machine in_run.lines))
+          ∙ ap (λ n. all_ticking project layout [] n (record (silent moment machine) { lines = in_run.lines })) (one_less done ticks h)
           ∙ in_run.goes_on;
       at = omega (arith, at.ticks, in_run.at);
       few = omega (arith, at.effects, in_run.few, few_more (is_effect layout.cells (ticked machine).0));
     }
 
 -- a tick whose lines weren't all written: what was written begins the lines of the whole run
-pub cut_short : (layout : Layout) (first : State) (before : Option (List ℕ)) (ticks done : ℕ) (moment : Moment) (machine : State) (mid after : Option (List ℕ)) → done < ticks → InRun layout first before ticks done moment machine mid → TookFirst mid (lines_text (after_tick layout moment machine).lines) after → TookFirst before (lines_text (all_ticking default_project layout [] ticks (beginning first)).lines) after
-cut_short layout first before ticks done moment machine mid after h in_run part =
-    let one = after_tick layout moment machine in
+pub cut_short : (project : Project) (layout : Layout) (first : State) (before : Option (List ℕ)) (ticks done : ℕ) (moment : Moment) (machine : State) (mid after : Option (List ℕ)) → done < ticks → InRun project layout first before ticks done moment machine mid → TookFirst mid (lines_text (after_tick project layout moment machine).lines) after → TookFirst before (lines_text (all_ticking project layout [] ticks (beginning first)).lines) after
+cut_short project layout first before ticks done moment machine mid after h in_run part =
+    let one = after_tick project layout moment machine in
     let ran : Run = record (silent moment machine) { lines = in_run.lines } in
-    let rest = lines_stay layout (ticks - (done + 1)) (ticking default_project layout [] ran) in
-    let all : (all_ticking default_project layout [] ticks (beginning first)).lines ≡ (in_run.lines ++ one.lines) ++ rest.0 =
-    ap (λ (r : Run). r.lines) (sym in_run.goes_on ∙ ap (λ n. all_ticking default_project layout [] n ran) (sym (one_less done ticks h))) ∙ rest.1 in
+    let rest = lines_stay project layout (ticks - (done + 1)) (ticking project layout [] ran) in
+    let all : (all_ticking project layout [] ticks (beginning first)).lines ≡ (in_run.lines ++ one.lines) ++ rest.0 =
+    ap (λ (r : Run). r.lines) (sym in_run.goes_on ∙ ap (λ n. all_ticking project layout [] n ran) (sym (one_less done ticks h))) ∙ rest.1 in
     let text = ap lines_text all ∙ lines_text-append (in_run.lines ++ one.lines) rest.0 ∙ ap (λ t. t ++ lines_text rest.0) (lines_text-append in_run.lines one.lines) in
     subst (λ (t : List ℕ). TookFirst before t after) (sym text)
     (first_of_more before (lines_text in_run.lines ++ lines_text one.lines) (lines_text rest.0) after
     (first_after before mid after (lines_text in_run.lines) (lines_text one.lines) in_run.written part))
 
 -- all ticks are done
-pub ran_whole : (layout : Layout) (first : State) (before : Option (List ℕ)) (ticks : ℕ) (moment : Moment) (machine : State) (after : Option (List ℕ)) → InRun layout first before ticks ticks moment machine after → IsAt (all_ticking default_project layout [] ticks (beginning first)) moment machine × Took before (lines_text (all_ticking default_project layout [] ticks (beginning first)).lines) after
-ran_whole layout first before ticks moment machine after in_run =
+pub ran_whole : (project : Project) (layout : Layout) (first : State) (before : Option (List ℕ)) (ticks : ℕ) (moment : Moment) (machine : State) (after : Option (List ℕ)) → InRun project layout first before ticks ticks moment machine after → IsAt (all_ticking project layout [] ticks (beginning first)) moment machine × Took before (lines_text (all_ticking project layout [] ticks (beginning first)).lines) after
+ran_whole project layout first before ticks moment machine after in_run =
     let none : 0 ≡ ticks - ticks = omega arith in
-    let whole : record (silent moment machine) { lines = in_run.lines } ≡ all_ticking default_project layout [] ticks (beginning first) =
-    ap (λ n. all_ticking default_project layout [] n (record (silent moment machine) { lines = in_run.lines })) none ∙ in_run.goes_on in (
+    let whole : record (silent moment machine) { lines = in_run.lines } ≡ all_ticking project layout [] ticks (beginning first) =
+    ap (λ n. all_ticking project layout [] n (record (silent moment machine) { lines = in_run.lines })) none ∙ in_run.goes_on in (
       record { ticks = ap (λ (r : Run). r.ticks) (sym whole); effects = ap (λ (r : Run). r.effects) (sym whole); machine_is = ap (λ (r : Run). r.machine) (sym whole) },
       subst (λ (r : Run). Took before (lines_text r.lines) after) whole in_run.written,
     )

@@ -12,15 +12,15 @@ pub record IsTicks (word : List ℕ) (ticks : ℕ) : Type 0 where
 abbrev pub IsNoTicks : List ℕ → Type 0
 IsNoTicks word = (ticks : ℕ) → IsTicks word ticks → ⊥
 
--- `sim default SOURCE TICKS`
-pub record IsSim (words : List (List ℕ)) (source : List ℕ) (ticks : ℕ) : Type 0 where
+-- `sim PROJECT SOURCE TICKS`
+pub record IsSim (words : List (List ℕ)) (project source : List ℕ) (ticks : ℕ) : Type 0 where
   pub number : List ℕ
-  pub words_are : words ≡ codes "sim" ∷ codes "default" ∷ source ∷ number ∷ []
+  pub words_are : words ≡ codes "sim" ∷ project ∷ source ∷ number ∷ []
   pub ticks_are : IsTicks number ticks
 
 -- not that
 abbrev pub IsNoSim : List (List ℕ) → Type 0
-IsNoSim words = (source : List ℕ) (ticks : ℕ) → IsSim words source ticks → ⊥
+IsNoSim words = (project source : List ℕ) (ticks : ℕ) → IsSim words project source ticks → ⊥
 
 -- `dump FILE --raw`, where a word that begins with `tcp:` names no file
 pub record IsDump (words : List (List ℕ)) (file : List ℕ) : Type 0 where

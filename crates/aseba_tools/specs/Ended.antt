@@ -1,12 +1,16 @@
 -- What a status says of a call of `sim`: why it came, and what was written.
-use Rattle.std.specs.Prelude.{◌≡◌, ℕ, ◌+◌, ◌<◌, ◌≤◌, Bool, true, false, MatchBool, List, [], ◌++◌, codes, length, sum_by, Option, None, IfSome, IsSomeAnd}
+use Rattle.std.specs.Prelude.{◌≡◌, ℕ, ◌+◌, ◌<◌, ◌≤◌, ◌⊎◌, Bool, true, false, MatchBool, List, [], ◌++◌, codes, length, sum_by, Option, None, IfSome, IsSomeAnd}
 use Rattle.aseba_edge.specs.Counts.{Counts}
 use Rattle.aseba_edge.specs.Sink.{Took, TookFirst}
 use Rattle.aseba_tree.specs.Line.{code_text, lines_text}
 use Rattle.aseba_tree.specs.Layout.{Placed, placed_from}
 use Rattle.aseba_codegen.specs.Table.{Layout}
 use Rattle.aseba_codegen.specs.Table.{table_lines}
-use Rattle.aseba_tools.specs.DefaultNode.{default_project, default_variables, default_cells}
+use Rattle.aseba_tree.specs.Code as tree
+use Rattle.aseba_tree.specs.View.{project_view}
+use Rattle.aseba_tree.specs.declared.project.Project.{Project}
+use Rattle.aseba_tools.specs.ProjectWord.{IsProject, NoProject}
+use Rattle.aseba_tools.specs.SimText.{node_cells}
 use Rattle.aseba_tools.specs.declared.status.Status.{Status}
 use Rattle.aseba_tools.specs.declared.status.Status.TheVariants.{Done, Absent, ReadFault, Refused, WriteFault, Memory, TooBig}
 
@@ -53,35 +57,47 @@ Cause source held Memory = Unit {0}
 Cause source held (TooBig file) = (file ≡ source) × IfSome held (λ h. IsSomeAnd h (λ bytes. 1048576 < length bytes))
 Cause source held _ = ⊥
 
--- the layout of the default node with variables of a program behind its own
-abbrev pub default_layout : List Placed → Layout
-default_layout own = record { node = placed_from 0 default_variables; own = own; cells = default_cells + sum_by (λ v. v.size) own }
+-- the layout of a project's node with variables of a program behind its own
+abbrev pub layout_on : tree.Project → List Placed → Layout
+layout_on project own = record { node = placed_from 0 project.node.variables; own = own; cells = node_cells project + sum_by (λ v. v.size) own }
 
 -- The line of the words of some program that fit the node, and then the lines of the machine's run of them.
-pub record IsSimText (ticks : ℕ) (text : List ℕ) : Type 0 where
+pub record IsSimText (project : tree.Project) (ticks : ℕ) (text : List ℕ) : Type 0 where
   pub words : List ℕ
   pub own : List Placed
-  pub fits : length words ≤ 2048
-  pub text_is : text ≡ code_text words ++ codes "\n" ++ lines_text (table_lines default_project (default_layout own) words [] ticks)
+  pub fits : length words ≤ project.node.code
+  pub text_is : text ≡ code_text words ++ codes "\n" ++ lines_text (table_lines project (layout_on project own) words [] ticks)
 
 -- all of such a text was written
-pub record Wrote (ticks : ℕ) (before after : Option (List ℕ)) : Type 0 where
+pub record Wrote (project : tree.Project) (ticks : ℕ) (before after : Option (List ℕ)) : Type 0 where
   pub text : List ℕ
-  pub is_sim : IsSimText ticks text
+  pub is_sim : IsSimText project ticks text
   pub took : Took before text after
 
 -- the first bytes of such a text were written, and no others
-pub record WroteFirst (ticks : ℕ) (before after : Option (List ℕ)) : Type 0 where
+pub record WroteFirst (project : tree.Project) (ticks : ℕ) (before after : Option (List ℕ)) : Type 0 where
   pub text : List ℕ
-  pub is_sim : IsSimText ticks text
+  pub is_sim : IsSimText project ticks text
   pub took : TookFirst before text after
 
 -- what was written
-abbrev pub Output : ℕ → Option (List ℕ) → Option (List ℕ) → Status → Type 0
-Output ticks before after Done = Wrote ticks before after
-Output ticks before after WriteFault = WroteFirst ticks before after
-Output ticks before after Memory = WroteFirst ticks before after
-Output ticks before after _ = after ≡ before
+abbrev pub Output : tree.Project → ℕ → Option (List ℕ) → Option (List ℕ) → Status → Type 0
+Output project ticks before after Done = Wrote project ticks before after
+Output project ticks before after WriteFault = WroteFirst project ticks before after
+Output project ticks before after Memory = WroteFirst project ticks before after
+Output project ticks before after _ = after ≡ before
+
+-- With the word's project the source decides.
+pub record IsOfProject (word source : List ℕ) (files : List ℕ → Option (Option (List ℕ))) (ticks : ℕ) (before after : Option (List ℕ)) (status : Status) : Type 0 where
+  pub project : Project
+  pub is_project : IsProject word (files word) project
+  pub cause : Cause source (files source) status
+  pub output : Output (project_view project) ticks before after status
+
+-- The word gives no project, and nothing was written; or it gives one.
+abbrev pub Simulated : (word source : List ℕ) → (List ℕ → Option (Option (List ℕ))) → (ticks : ℕ) → (before after : Option (List ℕ)) → Status → Type 0
+Simulated word source files ticks before after status =
+    (NoProject word (files word) status × (after ≡ before)) ⊎ IsOfProject word source files ticks before after status
 
 -- a message was put: all of it was taken, or where a put failed its first bytes
 pub record Told (before : Option (List ℕ)) (message : List ℕ) (after : Option (List ℕ)) (faults_before faults_after : ℕ) : Type 0 where

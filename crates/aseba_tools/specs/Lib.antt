@@ -1,9 +1,10 @@
 pub mod Command
-pub mod DefaultNode
 pub mod DumpText
 pub mod Dumped
 pub mod Ended
+pub mod Node
 pub mod Page
+pub mod ProjectWord
 pub mod SimText
 pub mod StatusText
 pub mod StreamEnd

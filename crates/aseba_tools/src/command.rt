@@ -4,9 +4,11 @@ ghost use Rattle.aseba_tools.specs.Command.{IsSim, IsNoSim, IsTicks, IsNoTicks, 
 /// The greatest number of ticks that may be asked for.
 const MOST_TICKS: u32 = 100_000_000;
 
-/// `sim default SOURCE TICKS`: run a source on the default node.
+/// `sim PROJECT SOURCE TICKS`: run a source on a project's node.
 #[derive(Clone, Copy, Debug)]
 pub struct SimCommand<'a> {
+    /// `default`, or the name of the project's file.
+    pub project: &'a str,
     /// The name of the source's file.
     pub source: &'a str,
     pub ticks: u32,
@@ -14,16 +16,17 @@ pub struct SimCommand<'a> {
 
 /// The run that the words ask for, if they do.
 pub fn sim_command(words: &[String]) -> Option<SimCommand<'_>>
-    ensures { MatchOption result (IsNoSim (map string_bytes words.now)) (λ c. IsSim (map string_bytes words.now) c.source.now c.ticks) }
+    ensures { MatchOption result (IsNoSim (map string_bytes words.now)) (λ c. IsSim (map string_bytes words.now) c.project.now c.source.now c.ticks) }
 {
     let [tool, project, source, ticks] = words else {
         return None;
     };
-    if tool.as_str() != "sim" || project.as_str() != "default" {
+    if tool.as_str() != "sim" {
         return None;
     }
     match number_of_ticks(ticks.as_str()) {
         Some(ticks) => Some(SimCommand {
+            project: project.as_str(),
             source: source.as_str(),
             ticks,
         }),

@@ -5,11 +5,12 @@ ghost use Rattle.std.specs.Fmt.{signed_decimal};
 ghost use Rattle.aseba_tree.specs.Line.{blank_number, blank_cells, event_text, lines_text, told, sent, bounds, division, end};
 ghost use Rattle.aseba_vm.specs.declared.tick.Tick.TheVariants.{Sent};
 ghost use Rattle.aseba_codegen.specs.Table.{event_of, tick_reports, var_lines};
-ghost use Rattle.aseba_tools.specs.DefaultNode.{default_project};
+ghost use Rattle.aseba_tree.specs.View.{project_view};
 ghost use Rattle.aseba_tools.specs.SimText.{code_line, place_of};
 
 use crate::early::Variable;
 use crate::text::Text;
+use aseba_tree::Project;
 use aseba_vm::Notice;
 use aseba_words::Mem;
 use std::alloc::Global;
@@ -35,15 +36,17 @@ pub fn words_line(alloc: Global, words: &[u16]) -> Result<Text, Mem>
 /// The line of a notice. A node error has none.
 pub fn notice_line(
     alloc: Global,
+    project: &Project,
     moment: Moment,
     notice: Notice,
     cells: &[i16],
 ) -> Result<Text, Mem>
-    ensures { IfOk result (λ text. text ≡ lines_text (map (told moment.ticks moment.effects) (tick_reports default_project cells.now (Sent notice)))) }
+    ensures { IfOk result (λ text. text ≡ lines_text (map (told moment.ticks moment.effects) (tick_reports (project_view project.now) cells.now (Sent notice)))) }
 {
     match notice {
         Notice::Emit { event, start, len } => emit_line(
             alloc,
+            project,
             moment,
             event,
             part(cells, start, len),
@@ -79,12 +82,18 @@ pub fn end_line(alloc: Global, moment: Moment) -> Result<Text, Mem>
     Ok(text)
 }
 
-fn emit_line(alloc: Global, moment: Moment, event: u16, cells: &[i16]) -> Result<Text, Mem>
-    ensures { IfOk result (λ text. text ≡ lines_text (told moment.ticks moment.effects (sent (event_of default_project event) cells.now) ∷ [])) }
+fn emit_line(
+    alloc: Global,
+    project: &Project,
+    moment: Moment,
+    event: u16,
+    cells: &[i16],
+) -> Result<Text, Mem>
+    ensures { IfOk result (λ text. text ≡ lines_text (told moment.ticks moment.effects (sent (event_of (project_view project.now) event) cells.now) ∷ [])) }
 {
     let mut text = moment_text(alloc, moment)?;
     text.push(b"emit ")?;
-    push_event(&mut text, event)?;
+    push_event(&mut text, project, event)?;
     text.push_cells(cells)?;
     text.push(b"\n")?;
     Ok(text)
@@ -134,16 +143,15 @@ fn moment_text(alloc: Global, moment: Moment) -> Result<Text, Mem>
 }
 
 /// Adds the name of an event, or its number where the project doesn't have it.
-#[tactic(auto, unfolding(crate::specs::DefaultNode::default_project))]
-fn push_event(text: &mut Text, event: u16) -> Result<(), Mem>
-    ensures { OnOk result (text.new ≡ text.old ++ event_text (event_of default_project event)) }
+fn push_event(text: &mut Text, project: &Project, event: u16) -> Result<(), Mem>
+    ensures { OnOk result (text.new ≡ text.old ++ event_text (event_of (project_view project.now) event)) }
 {
-    match event {
-        0 => text.push(b"ping"),
-        1 => text.push(b"pong"),
-        2 => text.push(b"pair"),
-        number => text.push_number(u64::from(number)),
+    let events = project.events.as_slice();
+    let number = usize::from(event);
+    if number >= events.len() {
+        return text.push_number(u64::from(event));
     }
+    text.push(events[number].name.as_bytes())
 }
 
 /// The cells from a start on, as many as there are up to a number.

@@ -1,41 +1,80 @@
-//! The default node: its sizes, and where its named cells lie.
-ghost use Rattle.std.specs.Prelude.{◌≡◌};
+//! The node of a project: where its named cells lie, and the shape of its machine.
+ghost use Rattle.std.specs.Prelude.{◌≡◌, ◌≤◌, map, option_map};
+ghost use Rattle.aseba_tree.specs.Inside.{InsideProject, InsideVariables, named_cells};
+ghost use Rattle.aseba_tree.specs.Layout.{placed_from};
+ghost use Rattle.aseba_tree.specs.View.{project_view, sized_view};
 ghost use Rattle.aseba_codegen.specs.Table.{shape_of};
-ghost use Rattle.aseba_tools.specs.DefaultNode.{default_project};
+ghost use Rattle.aseba_vm.specs.State.{NamesInside};
+ghost use Rattle.aseba_tools.specs.Node.{place_among};
+ghost use Rattle.aseba_tools.specs.SimText.{node_cells};
 
+use aseba_tree::{Project, Sized};
 use aseba_vm::Shape;
 
-/// Words of code.
-pub const CODE: u16 = 2048;
-/// Cells.
-pub const CELLS: u16 = 1024;
-/// Values on the stack.
-pub const STACK: u16 = 64;
-/// The id.
-pub const NODE_ID: u16 = 1;
-/// The address of `_id`.
-pub const ID: u16 = 0;
-/// The address of `event.source`.
-pub const SOURCE: u16 = 1;
-/// The first address of `event.args`.
-pub const ARGS: u16 = 2;
-/// The number of cells of `event.args`.
-pub const ARGS_SIZE: u16 = 32;
-/// All named cells; a program's variables begin behind them.
-pub const NAMED_CELLS: u16 = 34;
+/// Where a named variable lies.
+#[derive(Clone, Copy, Debug)]
+pub struct Place {
+    /// The address of its first cell.
+    pub start: u16,
+    /// The number of its cells.
+    pub size: u16,
+}
 
-/// The shape of its machine.
-#[tactic(auto, unfolding(crate::specs::DefaultNode::default_project))]
-pub fn shape() -> Shape
-    ensures { result ≡ shape_of default_project }
+/// The shape of a project's machine.
+pub fn shape(project: &Project) -> Shape
+    requires { InsideProject project.now }
+    ensures { result ≡ shape_of (project_view project.now) }
 {
+    let variables = project.node.variables.as_slice();
+    let nowhere = Place { start: 0, size: 0 };
+    let args = place_named(variables, b"event.args").unwrap_or(nowhere);
     Shape {
-        code: CODE,
-        cells: CELLS,
-        stack: STACK,
-        id: Some(ID),
-        source: Some(SOURCE),
-        args_at: ARGS,
-        args_len: ARGS_SIZE,
+        code: project.node.code,
+        cells: project.node.cells,
+        stack: project.node.stack,
+        id: start_of(place_named(variables, b"_id")),
+        source: start_of(place_named(variables, b"event.source")),
+        args_at: args.start,
+        args_len: args.size,
     }
+}
+
+fn start_of(place: Option<Place>) -> Option<u16>
+    ensures { result ≡ option_map (λ p. p.start) place }
+{
+    match place {
+        Some(place) => Some(place.start),
+        None => None,
+    }
+}
+
+/// The place of the first variable of a name, where they lie one behind the other.
+pub fn place_named(variables: &[Sized], name: &[u8]) -> Option<Place>
+    requires { named_cells variables.now ≤ 4096 }
+    ensures { result ≡ place_among (placed_from 0 (map sized_view variables.now)) name.now }
+{
+    let mut start = 0;
+    for variable in variables {
+        if variable.name.as_bytes() == name {
+            return Some(Place {
+                start,
+                size: variable.size,
+            });
+        }
+        start += variable.size;
+    }
+    None
+}
+
+/// The number of cells of a project's named variables. A program's own lie behind them.
+pub fn named_cells(project: &Project) -> u16
+    requires { InsideProject project.now }
+    ensures cells { result ≡ node_cells (project_view project.now) }
+    ensures few { result ≤ project.now.node.cells }
+{
+    let mut cells = 0;
+    for variable in project.node.variables.as_slice() {
+        cells += variable.size;
+    }
+    cells
 }

@@ -7,13 +7,15 @@ ghost use Rattle.aseba_tree.specs.Line.{lines_text};
 ghost use Rattle.aseba_codegen.specs.Table.{is_effect, started, var_lines};
 ghost use Rattle.aseba_tools.specs.Unwritten.{is_write_fault};
 ghost use Rattle.aseba_tools.specs.SimText.{after_tick, code_line, end_text, ending_text, layout_with, place_of, run_text, sim_text, ticks_of, IsAt};
-ghost use Rattle.aseba_tools.specs.DefaultNode.{default_project};
+ghost use Rattle.aseba_tree.specs.Inside.{InsideProject};
+ghost use Rattle.aseba_tree.specs.View.{project_view};
 
 use crate::early::{Program, Variable};
 use crate::lines::{Moment, end_line, notice_line, var_line, words_line};
 use crate::node;
 use crate::putting::{Unwritten, put_text};
 use aseba_edge::Sink;
+use aseba_tree::Project;
 use aseba_vm::{Machine, Tick};
 use aseba_words::Mem;
 use std::alloc::Global;
@@ -29,30 +31,33 @@ fn effects_of(cells: u64, tick: Tick) -> u64
     }
 }
 
-/// Does one tick and writes its line, if it has one.
+/// Does one tick and writes its line, if it has one. The node's and the program's variables have so
+/// many cells.
 fn tick<S: Sink>(
     alloc: Global,
     machine: &mut Machine,
+    project: &Project,
     program: &Program,
+    cells: u64,
     moment: Moment,
     out: &mut S,
 ) -> Result<Moment, Unwritten>
+    requires cells { cells ≡ (layout_with (project_view project.now) program.now.variables.items).cells }
     requires ticks { moment.ticks < 2 ^ 63 }
     requires effects { moment.effects < 2 ^ 63 }
-    ensures next { IfOk result (λ next. IsAt (after_tick (layout_with program.now.variables.items) moment machine.old) next machine.new) }
-    ensures whole { OnOk result (Took (S.taken out.old) (lines_text (after_tick (layout_with program.now.variables.items) moment machine.old).lines) (S.taken out.new)) }
-    ensures part { OnErr result (TookFirst (S.taken out.old) (lines_text (after_tick (layout_with program.now.variables.items) moment machine.old).lines) (S.taken out.new)) }
+    ensures next { IfOk result (λ next. IsAt (after_tick (project_view project.now) (layout_with (project_view project.now) program.now.variables.items) moment machine.old) next machine.new) }
+    ensures whole { OnOk result (Took (S.taken out.old) (lines_text (after_tick (project_view project.now) (layout_with (project_view project.now) program.now.variables.items) moment machine.old).lines) (S.taken out.new)) }
+    ensures part { OnErr result (TookFirst (S.taken out.old) (lines_text (after_tick (project_view project.now) (layout_with (project_view project.now) program.now.variables.items) moment machine.old).lines) (S.taken out.new)) }
     ensures count { Counts (is_write_fault result) (S.faults out.old) (S.faults out.new) }
 {
     let answer = machine.tick();
-    let cells = u64::from(node::NAMED_CELLS) + program.variables.len() as u64;
     let effects = moment.effects + effects_of(cells, answer);
     if let Tick::Sent(notice) = answer {
         let now = Moment {
             ticks: moment.ticks,
             effects,
         };
-        let line = notice_line(alloc, now, notice, machine.cells())?;
+        let line = notice_line(alloc, project, now, notice, machine.cells())?;
         put_text(out, &line)?;
     }
     Ok(Moment {
@@ -61,26 +66,37 @@ fn tick<S: Sink>(
     })
 }
 
+/// The number of cells of the node's and the program's variables.
+fn cells_of(project: &Project, program: &Program) -> u64
+    requires { InsideProject project.now }
+    ensures { result ≡ (layout_with (project_view project.now) program.now.variables.items).cells }
+{
+    u64::from(node::named_cells(project)) + program.variables.len() as u64
+}
+
 /// Does ticks from the first on, and writes their lines.
 #[tactic(auto, using(crate::proofs::Writing::put_steps))]
 fn run_ticks<S: Sink>(
     alloc: Global,
     machine: &mut Machine,
+    project: &Project,
     program: &Program,
     ticks: u32,
     out: &mut S,
 ) -> Result<Moment, Unwritten>
-    ensures end { IfOk result (λ end. IsAt (ticks_of program.now.variables.items ticks machine.old) end machine.new) }
-    ensures whole { OnOk result (Took (S.taken out.old) (lines_text (ticks_of program.now.variables.items ticks machine.old).lines) (S.taken out.new)) }
-    ensures part { OnErr result (TookFirst (S.taken out.old) (lines_text (ticks_of program.now.variables.items ticks machine.old).lines) (S.taken out.new)) }
+    requires { InsideProject project.now }
+    ensures end { IfOk result (λ end. IsAt (ticks_of (project_view project.now) program.now.variables.items ticks machine.old) end machine.new) }
+    ensures whole { OnOk result (Took (S.taken out.old) (lines_text (ticks_of (project_view project.now) program.now.variables.items ticks machine.old).lines) (S.taken out.new)) }
+    ensures part { OnErr result (TookFirst (S.taken out.old) (lines_text (ticks_of (project_view project.now) program.now.variables.items ticks machine.old).lines) (S.taken out.new)) }
     ensures count { Counts (is_write_fault result) (S.faults out.old) (S.faults out.new) }
 {
+    let cells = cells_of(project, program);
     let mut moment = Moment {
         ticks: 0,
         effects: 0,
     };
     for _tick in 0..ticks {
-        moment = tick(alloc, machine, program, moment, out)?;
+        moment = tick(alloc, machine, project, program, cells, moment, out)?;
     }
     Ok(moment)
 }
@@ -145,15 +161,17 @@ fn put_code<S: Sink>(alloc: Global, words: &[u16], out: &mut S) -> Result<(), Un
 fn put_run<S: Sink>(
     alloc: Global,
     mut machine: Machine,
+    project: &Project,
     program: &Program,
     ticks: u32,
     out: &mut S,
 ) -> Result<(), Unwritten>
-    ensures whole { OnOk result (Took (S.taken out.old) (run_text program.now.variables.items ticks machine) (S.taken out.new)) }
-    ensures part { OnErr result (TookFirst (S.taken out.old) (run_text program.now.variables.items ticks machine) (S.taken out.new)) }
+    requires { InsideProject project.now }
+    ensures whole { OnOk result (Took (S.taken out.old) (run_text (project_view project.now) program.now.variables.items ticks machine) (S.taken out.new)) }
+    ensures part { OnErr result (TookFirst (S.taken out.old) (run_text (project_view project.now) program.now.variables.items ticks machine) (S.taken out.new)) }
     ensures count { Counts (is_write_fault result) (S.faults out.old) (S.faults out.new) }
 {
-    let end = run_ticks(alloc, &mut machine, program, ticks, out)?;
+    let end = run_ticks(alloc, &mut machine, project, program, ticks, out)?;
     put_ending(
         alloc,
         program.variables.as_slice(),
@@ -163,30 +181,33 @@ fn put_run<S: Sink>(
     )
 }
 
-/// Runs a program's words on the default node for so many ticks, and writes the words and what the
+/// Runs a program's words on a project's node for so many ticks, and writes the words and what the
 /// run tells, line by line. Where it isn't written whole, what was written begins it.
 pub fn simulate<S: Sink>(
     alloc: Global,
+    project: &Project,
     program: &Program,
     ticks: u32,
     out: &mut S,
 ) -> Result<(), Unwritten>
-    requires { length program.now.words.items ≤ 2048 }
-    ensures whole { OnOk result (Took (S.taken out.old) (sim_text program.now.words.items program.now.variables.items ticks) (S.taken out.new)) }
-    ensures part { OnErr result (TookFirst (S.taken out.old) (sim_text program.now.words.items program.now.variables.items ticks) (S.taken out.new)) }
+    requires inside { InsideProject project.now }
+    requires fits { length program.now.words.items ≤ project.now.node.code }
+    ensures whole { OnOk result (Took (S.taken out.old) (sim_text (project_view project.now) program.now.words.items program.now.variables.items ticks) (S.taken out.new)) }
+    ensures part { OnErr result (TookFirst (S.taken out.old) (sim_text (project_view project.now) program.now.words.items program.now.variables.items ticks) (S.taken out.new)) }
     ensures count { Counts (is_write_fault result) (S.faults out.old) (S.faults out.new) }
 {
-    let machine = loaded_machine(alloc, program.words.as_slice())?;
+    let machine = loaded_machine(alloc, project, program.words.as_slice())?;
     put_code(alloc, program.words.as_slice(), out)?;
-    put_run(alloc, machine, program, ticks, out)
+    put_run(alloc, machine, project, program, ticks, out)
 }
 
-/// The default node's machine with these words, at the beginning of their init code.
-fn loaded_machine(alloc: Global, words: &[u16]) -> Result<Machine, Mem>
-    requires { length words.now ≤ 2048 }
-    ensures { IfOk result (λ machine. machine ≡ started default_project words.now) }
+/// The machine of a project's node with these words, at the beginning of their init code.
+fn loaded_machine(alloc: Global, project: &Project, words: &[u16]) -> Result<Machine, Mem>
+    requires inside { InsideProject project.now }
+    requires fits { length words.now ≤ project.now.node.code }
+    ensures { IfOk result (λ machine. machine ≡ started (project_view project.now) words.now) }
 {
-    let mut machine = Machine::new(alloc, &node::shape(), node::NODE_ID)?;
+    let mut machine = Machine::new(alloc, &node::shape(project), project.id)?;
     match machine.load(0, words) {
         Ok(()) => {}
         Err(_) => unreachable!(),

@@ -1,38 +1,65 @@
-//! `sim`: a source is read, compiled and run.
+//! `sim`: a project and a source are read, and the source is compiled and run.
 
 ghost use Rattle.std.specs.Prelude.{◌≡◌, option_map};
+ghost use Rattle.aseba_tree.specs.Inside.{InsideProject};
+ghost use Rattle.aseba_tree.specs.View.{project_view};
 ghost use Rattle.aseba_edge.specs.Counts.{Counts};
-ghost use Rattle.aseba_tools.specs.Ended.{Cause, IsOfText, Output, is_read_fault, is_write_fault};
+ghost use Rattle.aseba_tools.specs.Ended.{Cause, IsOfText, Output, Simulated, is_read_fault, is_write_fault};
 
 use crate::early::{NotCompiled, compile};
+use crate::project::named_project;
 use crate::putting::Unwritten;
 use crate::refusal::Refusal;
 use crate::sim::simulate;
 use crate::status::Status;
 use crate::unread::{absent, too_big};
 use aseba_edge::{FileAnswer, Files, Sink};
+use aseba_tree::Project;
 use std::alloc::Global;
 
 /// The greatest number of bytes that a source may have.
 const MOST_SOURCE: u64 = 1_048_576;
 
-/// Runs a source for so many ticks on the default node, and writes what it tells.
-#[tactic(auto, using(crate::proofs::Outputs::wrote_nothing))]
+/// Runs a source for so many ticks on the node of the project that a word names, and writes what it
+/// tells.
 pub fn sim<F: Files, S: Sink>(
     alloc: Global,
+    project: &str,
     source: &str,
     ticks: u32,
     files: &mut F,
     out: &mut S,
 ) -> Status
+    ensures simulated { Simulated project.now source.now (λ name. option_map (λ files. files name) (F.contents files.old)) ticks (S.taken out.old) (S.taken out.new) result }
+    ensures read_fault { Counts (is_read_fault result) (F.faults files.old) (F.faults files.new) }
+    ensures write_fault { Counts (is_write_fault result) (S.faults out.old) (S.faults out.new) }
+    ensures files { F.contents files.new ≡ F.contents files.old }
+{
+    match named_project(alloc, project, files) {
+        Ok(project) => run_source(alloc, &project, source, ticks, files, out),
+        Err(status) => status,
+    }
+}
+
+/// Runs a source for so many ticks on a project's node.
+#[tactic(auto, using(crate::proofs::Outputs::wrote_nothing))]
+fn run_source<F: Files, S: Sink>(
+    alloc: Global,
+    project: &Project,
+    source: &str,
+    ticks: u32,
+    files: &mut F,
+    out: &mut S,
+) -> Status
+    requires { InsideProject project.now }
     ensures cause { Cause source.now (option_map (λ files. files source.now) (F.contents files.old)) result }
-    ensures output { Output ticks (S.taken out.old) (S.taken out.new) result }
+    ensures output { Output (project_view project.now) ticks (S.taken out.old) (S.taken out.new) result }
     ensures read_fault { Counts (is_read_fault result) (F.faults files.old) (F.faults files.new) }
     ensures write_fault { Counts (is_write_fault result) (S.faults out.old) (S.faults out.new) }
     ensures files { F.contents files.new ≡ F.contents files.old }
 {
     match files.read(alloc, source, MOST_SOURCE) {
-        FileAnswer::Bytes(text) => run_text(alloc, text.as_slice(), ticks, out),
+        FileAnswer::Bytes(text) => run_text(alloc, project, text.as_slice(), ticks, out),
         FileAnswer::Absent => absent(alloc, source),
         FileAnswer::TooBig => too_big(alloc, source),
         FileAnswer::Failed => Status::ReadFault,
@@ -41,13 +68,20 @@ pub fn sim<F: Files, S: Sink>(
 }
 
 /// Runs the text of a source.
-fn run_text<S: Sink>(alloc: Global, text: &[u8], ticks: u32, out: &mut S) -> Status
+fn run_text<S: Sink>(
+    alloc: Global,
+    project: &Project,
+    text: &[u8],
+    ticks: u32,
+    out: &mut S,
+) -> Status
+    requires { InsideProject project.now }
     ensures cause { IsOfText result }
-    ensures output { Output ticks (S.taken out.old) (S.taken out.new) result }
+    ensures output { Output (project_view project.now) ticks (S.taken out.old) (S.taken out.new) result }
     ensures write_fault { Counts (is_write_fault result) (S.faults out.old) (S.faults out.new) }
 {
-    match compile(alloc, text) {
-        Ok(program) => match simulate(alloc, &program, ticks, out) {
+    match compile(alloc, project, text) {
+        Ok(program) => match simulate(alloc, project, &program, ticks, out) {
             Ok(()) => Status::Done,
             Err(Unwritten::WriteFault) => Status::WriteFault,
             Err(Unwritten::Mem) => Status::Memory,

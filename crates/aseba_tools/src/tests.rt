@@ -21,18 +21,39 @@ fn ran_with(
     failing: u64,
     room: usize,
 ) -> Result<Outcome, Mem> {
+    let mut files = Vec::new(alloc);
+    files.push(file(alloc, b"x.aseba", text)?)?;
+    ran_over(alloc, line, List::from_vec(files), failing, room)
+}
+
+fn file(alloc: Global, name: &[u8], bytes: &[u8]) -> Result<MemoryFile, Mem> {
+    Ok(MemoryFile {
+        name: Name::new(alloc, name)?,
+        bytes: List::from_slice(alloc, bytes)?,
+    })
+}
+
+/// Runs the words of a line over a source and a project `p`.
+fn ran_for(alloc: Global, line: &str, project: &[u8], text: &[u8]) -> Result<Outcome, Mem> {
+    let mut files = Vec::new(alloc);
+    files.push(file(alloc, b"x.aseba", text)?)?;
+    files.push(file(alloc, b"p", project)?)?;
+    ran_over(alloc, line, List::from_vec(files), 0, 1000)
+}
+
+fn ran_over(
+    alloc: Global,
+    line: &str,
+    files: List<MemoryFile>,
+    failing: u64,
+    room: usize,
+) -> Result<Outcome, Mem> {
     let mut owned = Vec::new(alloc);
     for word in line.split('|') {
         owned.push(String::from_str(alloc, word)?)?;
     }
-    let file = MemoryFile {
-        name: Name::new(alloc, b"x.aseba")?,
-        bytes: List::from_slice(alloc, text)?,
-    };
-    let mut files = Vec::new(alloc);
-    files.push(file)?;
     let failing = List::from_slice(alloc, &[failing])?;
-    let mut files = MemoryFiles::new(List::from_vec(files), failing);
+    let mut files = MemoryFiles::new(files, failing);
     let mut dialer = NoDialer::new();
     let mut out = MemorySink::new(alloc, room, List::new(alloc))?;
     let mut err = MemorySink::new(alloc, 1000, List::new(alloc))?;
@@ -141,7 +162,6 @@ fn words_that_are_no_command_line(rt: HostRuntime) -> Result<(), Fail> {
         "sim|default|x.aseba|100000001",
         "sim|default|x.aseba|99999999999999999999",
         "sim|default|x.aseba|1|1",
-        "sim|other|x.aseba|1",
         "dump|x.aseba",
         "dump|--raw|x.aseba",
         "dump|x.aseba|--raw|--raw",
@@ -182,6 +202,66 @@ fn files_that_are_not_read(rt: HostRuntime) -> Result<(), Fail> {
     assert_eq!(rt; ran.err.bytes(), b"aseba: too big x.aseba\n".as_slice());
     let ran = ran_with(rt.alloc(), "sim|default|x.aseba|5", &long[1..], 0, 1000)?;
     assert_eq!(rt; ran.number, 0);
+    Ok(())
+}
+
+const TINY: &[u8] = b"node tiny
+code 40
+vars 20
+stack 4
+id 7
+# the id lies behind the arguments
+variable event.args 3
+variable _id 1
+native math.copy -1 to -1 from ; copies
+event hello 0
+const ten 10
+";
+
+#[test]
+fn a_file_is_the_project(rt: HostRuntime) -> Result<(), Fail> {
+    let ran = ran_for(
+        rt.alloc(),
+        "sim|p|x.aseba|10",
+        TINY,
+        b"var x = _id\nx = x + 1\n",
+    )?;
+    assert_eq!(rt; ran.number, 0);
+    assert_eq!(rt;
+        ran.out.bytes(),
+        b"code 0003 ffff 0003 3003 4004 3004 1001 8002 4004 0000\nvar x 8\nend 10 3\n".as_slice()
+    );
+    let ran = ran_for(rt.alloc(), "sim|p|x.aseba|10", TINY, b"var ten")?;
+    assert_eq!(rt; ran.number, 4);
+    Ok(())
+}
+
+#[test]
+fn projects_that_are_not_taken(rt: HostRuntime) -> Result<(), Fail> {
+    for (project, told) in [
+        ("node 3\n", "aseba: project line 1\n"),
+        ("", "aseba: project line 1\n"),
+        (
+            "node n\ncode 4\nvars 1\nstack 1\nid 1\nnative math.fill -1 d 1 v ; fill\n",
+            "aseba: project line 6\n",
+        ),
+        (
+            "node n\ncode 4\nvars 1\n#\nstack 1\nid 1\nnative math.copy -1 d -1 s ; \nnative math.fill -1 d -1 v ; fill",
+            "aseba: project line 8\n",
+        ),
+        (
+            "node n\ncode 4\nvars 1\nstack 1\nid 1\nnative f ; \nevent e 257",
+            "aseba: project line 7\n",
+        ),
+    ] {
+        let ran = ran_for(rt.alloc(), "sim|p|missing|5", project.as_bytes(), b"")?;
+        assert_eq!(rt; ran.number, 5);
+        assert_eq!(rt; ran.out.bytes(), b"".as_slice());
+        assert_eq!(rt; ran.err.bytes(), told.as_bytes());
+    }
+    let ran = ran_for(rt.alloc(), "sim|q|missing|5", TINY, b"")?;
+    assert_eq!(rt; ran.number, 2);
+    assert_eq!(rt; ran.err.bytes(), b"aseba: no file q\n".as_slice());
     Ok(())
 }
 

@@ -2,7 +2,7 @@ ghost use Rattle.std.specs.Prelude.{◌≡◌, ◌↔◌, false, ℕ, List, None
 ghost use Rattle.aseba_edge.specs.Counts.{Counts};
 ghost use Rattle.aseba_tools.specs.Command.{IsSim, IsDump, IsNoCommand};
 ghost use Rattle.aseba_tools.specs.Dumped.{Dumped};
-ghost use Rattle.aseba_tools.specs.Ended.{Cause, Output, Told, is_read_fault, is_write_fault};
+ghost use Rattle.aseba_tools.specs.Ended.{Simulated, Told, is_read_fault, is_write_fault};
 ghost use Rattle.aseba_tools.specs.StatusText.{message_of};
 
 use crate::command::{dump_command, sim_command};
@@ -26,7 +26,7 @@ pub struct Ran<I, Q, O> {
 }
 
 /// Does what the words of a command line ask for, and tells on `err` how it ended. The words leave
-/// out the program's name. There are two tools yet, `sim default SOURCE TICKS` and
+/// out the program's name. There are two tools yet, `sim PROJECT SOURCE TICKS` and
 /// `dump FILE --raw`, which ask neither the dialer nor the clock for anything.
 pub fn run<F: Files, D: Dialer, S: Sink, E: Sink, C: Clock>(
     alloc: Global,
@@ -40,10 +40,8 @@ pub fn run<F: Files, D: Dialer, S: Sink, E: Sink, C: Clock>(
     requires clock_is_fresh { C.has_answered clock.old ≡ false }
     requires clock_is_low { C.floor clock.old ≡ 0 }
     ensures usage { (result.status ≡ Status.Usage) ↔ IsNoCommand (map string_bytes words.now) }
-    ensures cause { (source : List ℕ) (ticks : ℕ) → IsSim (map string_bytes words.now) source ticks →
-        Cause source (option_map (λ files. files source) (F.contents files.old)) result.status }
-    ensures output { (source : List ℕ) (ticks : ℕ) → IsSim (map string_bytes words.now) source ticks →
-        Output ticks (S.taken out.old) (S.taken out.new) result.status }
+    ensures simulated { (project source : List ℕ) (ticks : ℕ) → IsSim (map string_bytes words.now) project source ticks →
+        Simulated project source (λ name. option_map (λ files. files name) (F.contents files.old)) ticks (S.taken out.old) (S.taken out.new) result.status }
     ensures dumped { (file : List ℕ) → IsDump (map string_bytes words.now) file →
         Dumped file (option_map (λ files. files file) (F.contents files.old)) (S.taken out.old) (S.taken out.new) result.status }
     ensures nothing_for_usage { result.status ≡ Status.Usage → S.taken out.new ≡ S.taken out.old }
@@ -70,10 +68,8 @@ pub fn run<F: Files, D: Dialer, S: Sink, E: Sink, C: Clock>(
 /// Does what the words ask for.
 fn do_tool<F: Files, S: Sink>(alloc: Global, words: &[String], files: &mut F, out: &mut S) -> Status
     ensures usage { (result ≡ Status.Usage) ↔ IsNoCommand (map string_bytes words.now) }
-    ensures cause { (source : List ℕ) (ticks : ℕ) → IsSim (map string_bytes words.now) source ticks →
-        Cause source (option_map (λ files. files source) (F.contents files.old)) result }
-    ensures output { (source : List ℕ) (ticks : ℕ) → IsSim (map string_bytes words.now) source ticks →
-        Output ticks (S.taken out.old) (S.taken out.new) result }
+    ensures simulated { (project source : List ℕ) (ticks : ℕ) → IsSim (map string_bytes words.now) project source ticks →
+        Simulated project source (λ name. option_map (λ files. files name) (F.contents files.old)) ticks (S.taken out.old) (S.taken out.new) result }
     ensures dumped { (file : List ℕ) → IsDump (map string_bytes words.now) file →
         Dumped file (option_map (λ files. files file) (F.contents files.old)) (S.taken out.old) (S.taken out.new) result }
     ensures nothing_for_usage { result ≡ Status.Usage → S.taken out.new ≡ S.taken out.old }
@@ -82,7 +78,8 @@ fn do_tool<F: Files, S: Sink>(alloc: Global, words: &[String], files: &mut F, ou
     ensures files { F.contents files.new ≡ F.contents files.old }
 {
     if let Some(command) = sim_command(words) {
-        return sim(alloc, command.source, command.ticks, files, out);
+        let (project, source) = (command.project, command.source);
+        return sim(alloc, project, source, command.ticks, files, out);
     }
     match dump_command(words) {
         Some(file) => dump(alloc, file, files, out),

@@ -1,6 +1,7 @@
 //! The statuses of files that aren't read.
 
 ghost use Rattle.std.specs.Prelude.{ℕ, List, Option};
+ghost use Rattle.aseba_tree.specs.Code.{Project};
 ghost use Rattle.aseba_tools.specs.Ended.{IsOfNoFile, IsOfBigFile, Output};
 
 use crate::status::Status;
@@ -11,7 +12,7 @@ use std::alloc::Global;
 #[tactic(auto, using(crate::proofs::Outputs::wrote_nothing))]
 pub fn absent(alloc: Global, file: &str) -> Status
     ensures cause { IsOfNoFile file.now result }
-    ensures output { (ticks : ℕ) (written : Option (List ℕ)) → Output ticks written written result }
+    ensures output { (project : Project) (ticks : ℕ) (written : Option (List ℕ)) → Output project ticks written written result }
 {
     match Name::new(alloc, file.as_bytes()) {
         Ok(file) => Status::Absent { file },
@@ -23,7 +24,7 @@ pub fn absent(alloc: Global, file: &str) -> Status
 #[tactic(auto, using(crate::proofs::Outputs::wrote_nothing))]
 pub fn too_big(alloc: Global, file: &str) -> Status
     ensures cause { IsOfBigFile file.now result }
-    ensures output { (ticks : ℕ) (written : Option (List ℕ)) → Output ticks written written result }
+    ensures output { (project : Project) (ticks : ℕ) (written : Option (List ℕ)) → Output project ticks written written result }
 {
     match Name::new(alloc, file.as_bytes()) {
         Ok(file) => Status::TooBig { file },

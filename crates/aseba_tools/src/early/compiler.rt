@@ -1,8 +1,10 @@
-ghost use Rattle.std.specs.Prelude.{◌≤◌, ◌<◌, length, vec_len, IfOk, OnOk};
+ghost use Rattle.std.specs.Prelude.{◌≤◌, ◌<◌, length, IfOk};
+ghost use Rattle.aseba_tree.specs.Inside.{InsideProject, named_cells};
 
 use crate::early::program::{NotCompiled, Program, Variable};
 use crate::early::scanner::{Lexeme, Sign, next};
 use crate::node;
+use aseba_tree::{Const, Project, Sized};
 use aseba_words::{Binary, Name};
 use indexmap::IndexMap;
 use std::alloc::Global;
@@ -14,10 +16,11 @@ const KEYWORDS: [&[u8]; 22] = [
 ];
 
 /// Compiles a text in one pass, each statement as it is read.
-pub fn compile(alloc: Global, text: &[u8]) -> Result<Program, NotCompiled>
-    ensures { IfOk result (λ program. length program.words.items ≤ 2048) }
+pub fn compile(alloc: Global, project: &Project, text: &[u8]) -> Result<Program, NotCompiled>
+    requires { InsideProject project.now }
+    ensures { IfOk result (λ program. length program.words.items ≤ project.now.node.code) }
 {
-    let mut compiler = Compiler::new(alloc)?;
+    let mut compiler = Compiler::new(alloc, project)?;
     let statements = compiler.declarations(alloc, text)?;
     compiler.assignments(statements)?;
     compiler.push(STOP)?;
@@ -26,6 +29,9 @@ pub fn compile(alloc: Global, text: &[u8]) -> Result<Program, NotCompiled>
         variables,
         ..
     } = compiler;
+    if words.len() > usize::from(project.node.code) {
+        return Err(NotCompiled::Refused);
+    }
     Ok(Program { words, variables })
 }
 
@@ -48,33 +54,33 @@ const INIT_EVENT: u16 = 0xffff;
 struct Compiler {
     words: Vec<u16>,
     variables: Vec<Variable>,
-    /// The address of each name that a sum may use.
-    addresses: IndexMap<Vec<u8>, u16>,
-    ghost fits: { vec_len words ≤ 2048 },
+    /// Each name that is taken, with the address of a variable of one cell.
+    addresses: IndexMap<Vec<u8>, Option<u16>>,
+    /// The number of cells of the node's variables.
+    named: u16,
+    /// The number of all cells.
+    cells: u16,
 }
 
 impl Compiler {
     /// The event table alone, with the init code behind it.
-    fn new(alloc: Global) -> Result<Compiler, NotCompiled> {
+    fn new(alloc: Global, project: &Project) -> Result<Compiler, NotCompiled>
+        requires { InsideProject project.now }
+    {
         let words = Vec::from_slice(alloc, &[3, INIT_EVENT, 3])?;
         let mut addresses = IndexMap::new(alloc);
-        for (name, address) in [
-            (b"_id".as_slice(), node::ID),
-            (b"event.source".as_slice(), node::SOURCE),
-        ] {
-            addresses.insert(Vec::from_slice(alloc, name)?, address)?;
-        }
+        add_variables(alloc, &mut addresses, project.node.variables.as_slice())?;
+        add_consts(alloc, &mut addresses, project.consts.as_slice())?;
         Ok(Compiler {
             words,
             variables: Vec::new(alloc),
             addresses,
+            named: node::named_cells(project),
+            cells: project.node.cells,
         })
     }
 
     fn push(&mut self, word: u16) -> Result<(), NotCompiled> {
-        if self.words.len() >= usize::from(node::CODE) {
-            return Err(NotCompiled::Refused);
-        }
         self.words.push(word)?;
         Ok(())
     }
@@ -113,15 +119,15 @@ impl Compiler {
         };
         self.variables.push(variable)?;
         self.addresses
-            .insert(Vec::from_slice(alloc, name)?, address)?;
+            .insert(Vec::from_slice(alloc, name)?, Some(address))?;
         Ok(rest)
     }
 
     /// The address that a new variable gets.
     fn free_address(&self, name: &[u8]) -> Result<u16, NotCompiled> {
-        let is_taken = self.addresses.contains_key(name) || name == b"event.args".as_slice();
-        let address = usize::from(node::NAMED_CELLS) + self.variables.len();
-        if is_taken || !is_name(name) || address >= usize::from(node::CELLS) {
+        let is_taken = self.addresses.contains_key(name);
+        let address = usize::from(self.named) + self.variables.len();
+        if is_taken || !is_name(name) || address >= usize::from(self.cells) {
             return Err(NotCompiled::Refused);
         }
         Ok(address as u16)
@@ -197,11 +203,44 @@ impl Compiler {
     }
 
     fn address_of(&self, name: &[u8]) -> Result<u16, NotCompiled> {
-        self.addresses
-            .get(name)
-            .copied()
-            .ok_or(NotCompiled::Refused)
+        match self.addresses.get(name) {
+            Some(Some(address)) => Ok(*address),
+            _ => Err(NotCompiled::Refused),
+        }
     }
+}
+
+/// Adds the variables of a node.
+fn add_variables(
+    alloc: Global,
+    addresses: &mut IndexMap<Vec<u8>, Option<u16>>,
+    variables: &[Sized],
+) -> Result<(), NotCompiled>
+    requires { named_cells variables.now ≤ 4096 }
+{
+    let mut start = 0;
+    for variable in variables {
+        let address = if variable.size == 1 {
+            Some(start)
+        } else {
+            None
+        };
+        addresses.insert(Vec::from_slice(alloc, variable.name.as_bytes())?, address)?;
+        start += variable.size;
+    }
+    Ok(())
+}
+
+/// Adds the names of constants, which no sum may use yet.
+fn add_consts(
+    alloc: Global,
+    addresses: &mut IndexMap<Vec<u8>, Option<u16>>,
+    consts: &[Const],
+) -> Result<(), NotCompiled> {
+    for constant in consts {
+        addresses.insert(Vec::from_slice(alloc, constant.name.as_bytes())?, None)?;
+    }
+    Ok(())
 }
 
 /// A letter or `_` first, and no keyword.

@@ -5,13 +5,11 @@ use Rattle.aseba_tools.proofs.command.sim_command.Goals as goal
 pub returns-in-Some : goal.returns-in-Some
 returns-in-Some c =
     let tool = sym c.as_str.ensures.value ∙ same_text _ _ c.if-ne.ensures in
-    let project = sym c.as_str-else-ne.ensures.value ∙ same_text _ _ c.if-ne-2.ensures in
-    let words = are_words c.args.words.now _ _ _ _ (omega arith) c.tool-item.is c.project-item.is c.source-item.is c.ticks-item.is tool project in
-    are_sim _ _ _ _ (words ∙ (λ i. codes "sim" ∷ codes "default" ∷ sym c.as_str-in-Some.ensures.value i ∷ sym c.as_str-2.ensures.value i ∷ [])) c.in-Some.ensures
+    let words = are_words c.args.words.now _ _ _ _ (omega arith) c.tool-item.is c.project-item.is c.source-item.is c.ticks-item.is tool in
+    are_sim _ _ _ _ _ (words ∙ (λ i. codes "sim" ∷ sym c.as_str-in-Some.ensures.value i ∷ sym c.as_str-in-Some-2.ensures.value i ∷ sym c.as_str-2.ensures.value i ∷ [])) c.in-Some.ensures
 
 pub returns-in-None : goal.returns-in-None
 returns-in-None c =
     let tool = sym c.as_str.ensures.value ∙ same_text _ _ c.if-ne.ensures in
-    let project = sym c.as_str-else-ne.ensures.value ∙ same_text _ _ c.if-ne-2.ensures in
-    let words = are_words c.args.words.now _ _ _ _ (omega arith) c.tool-item.is c.project-item.is c.source-item.is c.ticks-item.is tool project in
-    are_no_sim _ _ _ (words ∙ (λ i. codes "sim" ∷ codes "default" ∷ string_bytes c.source-item.result ∷ sym c.as_str-2.ensures.value i ∷ [])) c.in-None.ensures
+    let words = are_words c.args.words.now _ _ _ _ (omega arith) c.tool-item.is c.project-item.is c.source-item.is c.ticks-item.is tool in
+    are_no_sim _ _ _ _ (words ∙ (λ i. codes "sim" ∷ string_bytes c.project-item.result ∷ string_bytes c.source-item.result ∷ sym c.as_str-2.ensures.value i ∷ [])) c.in-None.ensures

@@ -1,0 +1,101 @@
+-- Which project a word names, or why it names none.
+use Rattle.std.specs.Prelude.{◌≡◌, ◌≢◌, ℕ, ◌+◌, ◌<◌, ◌≤◌, ◌⊎◌, ℤ, Bool, true, false, MatchBool, nat_eq, List, [], ◌∷◌, length, map, take, codes, Option, None, Some, Result, Ok, Err, IfSome, IsSomeAnd}
+use Rattle.std.specs.Str.Lines.{lines}
+use Rattle.std.specs.Cmp.Lexicographic.{pointwise}
+use Rattle.aseba_tree.specs.declared.description.Native.{Native}
+use Rattle.aseba_tree.specs.declared.project.Project.{Project}
+use Rattle.aseba_describe.specs.Grammar.{ProjectText, IsBadLine}
+use Rattle.aseba_describe.specs.Defaults.{default_project}
+use Rattle.aseba_describe.specs.NativeLines.{IsNativeLine}
+use Rattle.aseba_tools.specs.declared.status.Status.{Status}
+use Rattle.aseba_tools.specs.declared.status.Status.TheVariants.{Absent, ReadFault, BadProject, Memory, TooBig}
+
+-- the word `default` stands for the default project, any other for a file
+abbrev pub is_default : List ℕ → Bool
+is_default word = pointwise nat_eq word (codes "default")
+
+-- what a native is called by: its name and the sizes of its parameters
+pub record Heading : Type 0 where
+  pub name : List ℕ
+  pub sizes : List ℤ
+
+abbrev pub heading : Native → Heading
+heading n = record { name = n.name; sizes = map (λ p. p.size) n.params }
+
+abbrev pub headings : List Native → List Heading
+headings natives = map heading natives
+
+-- natives are the first of the known ones, in order
+abbrev pub AreFirst : List Native → List Native → Type 0
+AreFirst natives known = headings natives ≡ take (length natives) (headings known)
+
+-- so many natives are, and the next one isn't
+pub record IsFirstOther (natives known : List Native) (k : ℕ) : Type 0 where
+  pub inside : k < length natives
+  pub before : take k (headings natives) ≡ take k (headings known)
+  pub differs : take (k + 1) (headings natives) ≢ take (k + 1) (headings known)
+
+-- the natives that every machine has
+abbrev pub known_natives : List Native
+known_natives = default_project.node.natives
+
+-- a text spells a project that a machine can be made for
+pub record IsRunProject (text : List ℕ) (p : Project) : Type 0 where
+  pub spelled : ProjectText text p
+  pub natives : AreFirst p.node.natives known_natives
+
+-- the line of the first native that a machine doesn't have, in the text of a project
+pub record IsOtherNative (text : List ℕ) (line : ℕ) : Type 0 where
+  pub project : Project
+  pub spelled : ProjectText text project
+  pub others : ℕ
+  pub first : IsFirstOther project.node.natives known_natives others
+  pub line_is : IsNativeLine (lines text) others line
+
+-- the line that is to blame where no such project is spelled: a bad one of the text, and else that of a native
+abbrev pub IsToBlame : List ℕ → ℕ → Type 0
+IsToBlame text line = IsBadLine (lines text) line ⊎ IsOtherNative text line
+
+-- these bytes were read: they are the file's, where the files tell what they hold, and no more than may be
+pub record IsText (held : Option (Option (List ℕ))) (text : List ℕ) : Type 0 where
+  pub told : IfSome held (λ h. h ≡ Some text)
+  pub few : length text ≤ 1048576
+
+pub record IsFileProject (held : Option (Option (List ℕ))) (p : Project) : Type 0 where
+  pub text : List ℕ
+  pub read : IsText held text
+  pub run : IsRunProject text p
+
+-- the project of a word, where the files hold this under it
+abbrev pub IsProject : List ℕ → Option (Option (List ℕ)) → Project → Type 0
+IsProject word held p = MatchBool (is_default word) (p ≡ default_project) (IsFileProject held p)
+
+-- a file's text has this line to blame
+pub record IsBlamed (held : Option (Option (List ℕ))) (line : ℕ) : Type 0 where
+  pub text : List ℕ
+  pub read : IsText held text
+  pub blame : IsToBlame text line
+
+-- why a text spells no project that a machine can be made for
+abbrev pub NoTextProject : List ℕ → Status → Type 0
+NoTextProject text (BadProject line) = IsToBlame text line
+NoTextProject text Memory = Unit {0}
+NoTextProject text _ = ⊥
+
+-- a read failed on the way to a project
+abbrev pub is_read_fault : Result Project Status → Bool
+is_read_fault (Err ReadFault) = true
+is_read_fault _ = false
+
+-- why a file gives no project
+abbrev pub NoFileProject : List ℕ → Option (Option (List ℕ)) → Status → Type 0
+NoFileProject word held (Absent file) = (file ≡ word) × IfSome held (λ h. h ≡ None)
+NoFileProject word held ReadFault = Unit {0}
+NoFileProject word held (BadProject line) = IsBlamed held line
+NoFileProject word held Memory = Unit {0}
+NoFileProject word held (TooBig file) = (file ≡ word) × IfSome held (λ h. IsSomeAnd h (λ bytes. 1048576 < length bytes))
+NoFileProject word held _ = ⊥
+
+-- The status of a word that gives no project; for the default one only memory may not suffice.
+abbrev pub NoProject : List ℕ → Option (Option (List ℕ)) → Status → Type 0
+NoProject word held status = MatchBool (is_default word) (status ≡ Memory) (NoFileProject word held status)

@@ -1,0 +1,126 @@
+//! The project that a word names.
+
+ghost use Rattle.std.specs.Prelude.{◌≡◌, ◌<◌, IfOk, IfErr, MatchOption, length, option_map};
+ghost use Rattle.std.specs.Str.Lines.{lines};
+ghost use Rattle.aseba_edge.specs.Counts.{Counts};
+ghost use Rattle.aseba_tree.specs.Inside.{InsideProject};
+ghost use Rattle.aseba_describe.specs.Defaults as describe;
+ghost use Rattle.aseba_describe.specs.Grammar.{ProjectText};
+ghost use Rattle.aseba_describe.specs.NativeLines.{IsNativeLine};
+ghost use Rattle.aseba_tools.specs.ProjectWord.{AreFirst, IsFileProject, IsFirstOther, IsProject, IsRunProject, NoFileProject, NoProject, NoTextProject, known_natives};
+ghost use Rattle.aseba_tools.specs.ProjectWord as spec;
+
+use crate::natives::first_other;
+use crate::status::Status;
+use crate::unread::{absent, too_big};
+use aseba_describe::{ProjectError, default_project, native_line, read_project};
+use aseba_edge::{FileAnswer, Files};
+use aseba_tree::{Native, Project};
+use aseba_words::Mem;
+use std::alloc::Global;
+
+/// The greatest number of bytes that a project's text may have.
+const MOST_PROJECT: u64 = 1_048_576;
+
+/// The project that a word names: the default one, or that of a file's text.
+pub fn named_project<F: Files>(
+    alloc: Global,
+    word: &str,
+    files: &mut F,
+) -> Result<Project, Status>
+    ensures project { IfOk result (IsProject word.now (option_map (λ files. files word.now) (F.contents files.old))) }
+    ensures inside { IfOk result InsideProject }
+    ensures why { IfErr result (NoProject word.now (option_map (λ files. files word.now) (F.contents files.old))) }
+    ensures read_fault { Counts (spec.is_read_fault result) (F.faults files.old) (F.faults files.new) }
+    ensures files { F.contents files.new ≡ F.contents files.old }
+{
+    if is_default(word) {
+        without_file(alloc)
+    } else {
+        file_project(alloc, word, files)
+    }
+}
+
+fn is_default(word: &str) -> bool
+    ensures { result ≡ spec.is_default word.now }
+{
+    word == "default"
+}
+
+/// The default project.
+fn without_file(alloc: Global) -> Result<Project, Status>
+    ensures project { IfOk result (λ project. project ≡ describe.default_project) }
+    ensures inside { IfOk result InsideProject }
+    ensures why { IfErr result (λ status. status ≡ Status.Memory) }
+{
+    match default_project(alloc) {
+        Ok(project) => Ok(project),
+        Err(_) => Err(Status::Memory),
+    }
+}
+
+/// The project of a file's text.
+fn file_project<F: Files>(alloc: Global, word: &str, files: &mut F) -> Result<Project, Status>
+    ensures project { IfOk result (IsFileProject (option_map (λ files. files word.now) (F.contents files.old))) }
+    ensures inside { IfOk result InsideProject }
+    ensures why { IfErr result (NoFileProject word.now (option_map (λ files. files word.now) (F.contents files.old))) }
+    ensures read_fault { Counts (spec.is_read_fault result) (F.faults files.old) (F.faults files.new) }
+    ensures files { F.contents files.new ≡ F.contents files.old }
+{
+    match files.read(alloc, word, MOST_PROJECT) {
+        FileAnswer::Bytes(text) => text_project(alloc, text.as_slice()),
+        FileAnswer::Absent => Err(absent(alloc, word)),
+        FileAnswer::TooBig => Err(too_big(alloc, word)),
+        FileAnswer::Failed => Err(Status::ReadFault),
+        FileAnswer::Mem => Err(Status::Memory),
+    }
+}
+
+/// The project that a text spells, if its natives are the machine's.
+fn text_project(alloc: Global, text: &[u8]) -> Result<Project, Status>
+    ensures project { IfOk result (IsRunProject text.now) }
+    ensures inside { IfOk result InsideProject }
+    ensures why { IfErr result (NoTextProject text.now) }
+{
+    match read_project(alloc, text) {
+        Ok(project) => with_natives(alloc, text, project),
+        Err(ProjectError::Line { n }) => Err(Status::BadProject { line: n }),
+        Err(ProjectError::Mem) => Err(Status::Memory),
+    }
+}
+
+/// The project of a text, if its natives are the machine's.
+fn with_natives(alloc: Global, text: &[u8], project: Project) -> Result<Project, Status>
+    requires { ProjectText text.now project }
+    ensures project { IfOk result (IsRunProject text.now) }
+    ensures inside { IfOk result InsideProject }
+    ensures why { IfErr result (NoTextProject text.now) }
+{
+    match first_unknown(alloc, project.node.natives.as_slice()) {
+        Ok(None) => Ok(project),
+        Ok(Some(others)) => Err(Status::BadProject {
+            line: line_of(text, &project, others),
+        }),
+        Err(Mem) => Err(Status::Memory),
+    }
+}
+
+/// How many natives come before the first that isn't the machine's of its number.
+fn first_unknown(alloc: Global, natives: &[Native]) -> Result<Option<u64>, Mem>
+    ensures { IfOk result (λ found. MatchOption found (AreFirst natives.now known_natives) (IsFirstOther natives.now known_natives)) }
+{
+    let known = default_project(alloc)?;
+    Ok(first_other(natives, known.node.natives.as_slice()))
+}
+
+/// The line of a native in the text of its project.
+fn line_of(text: &[u8], project: &Project, others: u64) -> u64
+    requires spelled { ProjectText text.now project.now }
+    requires there { others < length project.now.node.natives }
+    ensures { IsNativeLine (lines text.now) others result }
+{
+    match native_line(text, others) {
+        Some(line) => line,
+        None => unreachable!(),
+    }
+}
