@@ -1,2 +1,3 @@
 pub mod BeatLaws
 pub mod Rows
+mod WordRows

@@ -1,3 +1,4 @@
 pub mod Beats
 pub mod Table
+pub mod Words
 pub mod Worked

@@ -1,0 +1,203 @@
+-- The plain code of a core: its words, each with the line of the effect that is next from there.
+use Rattle.std.specs.Prelude.{ℕ, suc, ◌+◌, ◌-◌, ◌*◌, Bool, true, false, not, ◌||◌, if◌then◌else◌, ℤ, pos, negsuc, neg_ℤ, ◌-ℤ◌, int_lt, List, [], ◌∷◌, ◌++◌, length, map, take, drop, sum_by, filter, flat_map, is_some, Option, Some, None, slice_index}
+use Rattle.std.specs.Int.{cast_unsigned, w16}
+use Rattle.aseba_words.specs.Codes.{unary_code, binary_code}
+use Rattle.aseba_words.specs.declared.operators.Binary.TheVariants.{Differ}
+use Rattle.aseba_tree.specs.Code.{Project}
+use Rattle.aseba_tree.specs.Core.{CoreExpr, fixed, cell, indirect, prefix, infix_of, CoreTarget, into, into_index, CoreStmt, core_stmt, CoreForm, store, branch, on_edge, loop, send, enter, use_native, go_back, CoreStmts, no_core, core_stmts, CorePart, Core}
+use Rattle.aseba_tree.specs.Sizes.{is_of_one_cell}
+use Rattle.aseba_tree.specs.Numbers.{is_large, jump_words}
+use Rattle.aseba_tree.specs.CoreNumbers.{param_count, is_handler, core_list_words, core_part_words, core_table_words, core_starts_from}
+
+-- A word, with the line of the effect that is next from there, and whether it is the branch of a `when`, whose bit 9 changes as it runs.
+pub record Coded : Type 0 where
+  pub word : ℕ
+  pub line : ℕ
+  pub is_edge : Bool
+
+-- words of one line that stay as they are
+abbrev pub on_line : ℕ → List ℕ → List Coded
+on_line line words = map (λ word. record { word = word; line = line; is_edge = false }) words
+
+-- the instruction of a number, which are its high four bits, with its low twelve bits
+abbrev pub instruction : ℕ → ℕ → ℕ
+instruction number low = number * 4096 + low
+
+-- a number from -2048 to 2047 in twelve bits
+abbrev pub twelve_bits : ℤ → ℕ
+twelve_bits (pos n) = n
+twelve_bits (negsuc n) = 4095 - n
+
+-- a number in sixteen bits
+abbrev pub sixteen_bits : ℤ → ℕ
+sixteen_bits v = cast_unsigned w16 v
+
+-- Expressions
+
+-- a number is pushed: from the word's own low bits where it is from -2048 to 2047, else from a further word
+abbrev pub large_number_code : ℤ → List ℕ
+large_number_code v = instruction 2 0 ∷ sixteen_bits v ∷ []
+
+abbrev pub number_code : ℤ → List ℕ
+number_code v = if int_lt v (negsuc 2047) || int_lt (pos 2047) v then large_number_code v else instruction 1 (twelve_bits v) ∷ []
+
+-- the code that pushes an expression's value
+abbrev pub expr_code : CoreExpr → List ℕ
+expr_code (fixed v) = number_code v
+expr_code (cell address) = instruction 3 address ∷ []
+expr_code (indirect base size i) = expr_code i ++ instruction 5 base ∷ size ∷ []
+expr_code (prefix op e) = expr_code e ++ instruction 7 (unary_code op) ∷ []
+expr_code (infix_of op l r) = expr_code l ++ expr_code r ++ instruction 8 (binary_code op) ∷ []
+
+-- The two values that a branch compares, and its operator. A comparison, an `and` and an `or` are the branch's own; any other value is
+-- compared with 0.
+pub record Condition : Type 0 where
+  pub words : List ℕ
+  pub operator : ℕ
+
+abbrev pub differs_from_zero : CoreExpr → Condition
+differs_from_zero e = record { words = expr_code e ++ number_code (pos 0); operator = binary_code Differ }
+
+abbrev pub condition_code : CoreExpr → Condition
+condition_code (infix_of op l r) =
+    if is_of_one_cell op then record { words = expr_code l ++ expr_code r; operator = binary_code op } else differs_from_zero (infix_of op l r)
+condition_code e = differs_from_zero e
+
+-- Statements
+
+abbrev pub store_code : CoreTarget → CoreExpr → List ℕ
+store_code (into address) e = expr_code e ++ instruction 4 address ∷ []
+store_code (into_index base size i) e = expr_code e ++ expr_code i ++ instruction 6 base ∷ size ∷ []
+
+-- A jump by a displacement from its first word. In a large project it is a branch that is never taken, and its displacement counts from the
+-- branch, two words behind the first.
+abbrev pub jump_code : Project → ℤ → List ℕ
+jump_code project by =
+    if is_large project then instruction 1 0 ∷ instruction 1 0 ∷ instruction 10 (binary_code Differ) ∷ sixteen_bits (by -ℤ pos 2) ∷ []
+    else instruction 9 (twelve_bits by) ∷ []
+
+-- the branch word, which in a `when` has bit 8
+abbrev pub branch_word : ℕ → Bool → ℕ
+branch_word operator is_edge = instruction 10 (operator + (if is_edge then 256 else 0))
+
+-- A condition and its branch, which goes on behind itself where it is true, and else so many words from the branch on.
+abbrev pub test_code : ℕ → Bool → Condition → ℕ → List Coded
+test_code line is_edge c otherwise =
+    on_line line c.words ++ record { word = branch_word c.operator is_edge; line = line; is_edge = is_edge } ∷ on_line line (otherwise ∷ [])
+
+-- with an else a jump stands behind the body
+abbrev pub if_code : Project → ℕ → Condition → List Coded → CoreStmts → List Coded → List Coded
+if_code project line c body no_core other = test_code line false c (2 + length body) ++ body
+if_code project line c body (core_stmts _ _) other =
+    test_code line false c (2 + length body + jump_words project) ++ body ++ on_line line (jump_code project (pos (jump_words project + length other))) ++ other
+
+abbrev pub when_code : ℕ → Condition → List Coded → List Coded
+when_code line c body = test_code line true c (2 + length body) ++ body
+
+-- behind the body a jump leads back to the condition
+abbrev pub loop_code : Project → ℕ → Condition → List Coded → List Coded
+loop_code project line c body =
+    test_code line false c (2 + length body + jump_words project) ++ body
+    ++ on_line line (jump_code project (neg_ℤ (pos (length c.words + 2 + length body))))
+
+-- the addresses of the arguments always as large numbers, then the lengths as numbers, then the call
+abbrev pub native_code : Project → ℕ → List ℕ → List ℕ
+native_code project id values =
+    flat_map (λ address. large_number_code (pos address)) (take (param_count project id) values)
+    ++ flat_map (λ n. number_code (pos n)) (drop (param_count project id) values) ++ instruction 12 id ∷ []
+
+-- what code is made for: the project, the address of each part, and whether the code is a subroutine's
+pub record Site : Type 0 where
+  pub project : Project
+  pub starts : List ℕ
+  pub in_sub : Bool
+
+-- the word that ends a subroutine, or the init code or a handler
+abbrev pub last_word : Bool → ℕ
+last_word in_sub = if in_sub then instruction 14 0 else instruction 0 0
+
+abbrev mutual
+  pub stmt_code : Site → CoreStmt → List Coded
+  stmt_code site (core_stmt line form) = form_code site line form
+
+  pub form_code : Site → ℕ → CoreForm → List Coded
+  form_code site line (store target e) = on_line line (store_code target e)
+  form_code site line (branch c body other) = if_code site.project line (condition_code c) (list_code site body) other (list_code site other)
+  form_code site line (on_edge c body) = when_code line (condition_code c) (list_code site body)
+  form_code site line (loop c body) = loop_code site.project line (condition_code c) (list_code site body)
+  form_code site line (send event address count) = on_line line (instruction 11 event ∷ address ∷ count ∷ [])
+  form_code site line (enter which) = on_line line (instruction 13 (slice_index site.starts which) ∷ [])
+  form_code site line (use_native id values) = on_line line (native_code site.project id values)
+  form_code site line go_back = on_line line (last_word site.in_sub ∷ [])
+
+  pub list_code : Site → CoreStmts → List Coded
+  list_code site no_core = []
+  list_code site (core_stmts s ss) = stmt_code site s ++ list_code site ss
+
+-- Parts
+
+-- statements and the last word, which has a line of its own
+abbrev pub body_code : Site → ℕ → CoreStmts → List Coded
+body_code site line body = list_code site body ++ on_line line (last_word site.in_sub ∷ [])
+
+abbrev pub is_sub : CorePart → Bool
+is_sub part = not (is_handler part)
+
+abbrev pub site_of : Project → List ℕ → Bool → Site
+site_of project starts in_sub = record { project = project; starts = starts; in_sub = in_sub }
+
+abbrev pub part_code : Project → List ℕ → CorePart → List Coded
+part_code project starts part = body_code (site_of project starts (is_sub part)) part.line part.body
+
+-- the end of the init code has line 1
+abbrev pub init_code : Project → List ℕ → Core → List Coded
+init_code project starts core = body_code (site_of project starts false) 1 core.init
+
+-- Where the code stands. In a large project the subroutines stand before the init code, else all parts stand behind it.
+abbrev pub init_start : Project → Core → ℕ
+init_start project core = core_table_words core + (if is_large project then sum_by (core_part_words project) (filter is_sub core.parts) else 0)
+
+-- the addresses of parts, of which the subroutines follow each other from one address on and the handlers from another
+abbrev pub starts_apart : Project → ℕ → ℕ → List CorePart → List ℕ
+starts_apart project sub handler [] = []
+starts_apart project sub handler (part ∷ parts) =
+    if is_handler part then handler ∷ starts_apart project sub (handler + core_part_words project part) parts
+    else sub ∷ starts_apart project (sub + core_part_words project part) handler parts
+
+-- the address of each part
+abbrev pub part_starts : Project → Core → List ℕ
+part_starts project core =
+    let behind_init = init_start project core + core_list_words project core.init + 1 in
+    if is_large project then starts_apart project (core_table_words core) behind_init core.parts else core_starts_from project behind_init core.parts
+
+-- The event table: its length, the number and the address of the init code, then those of the handlers.
+abbrev pub handler_entry : Option ℕ → ℕ → List ℕ
+handler_entry None start = []
+handler_entry (Some event) start = event ∷ start ∷ []
+
+abbrev pub handler_entries : List CorePart → List ℕ → List ℕ
+handler_entries (part ∷ parts) (start ∷ starts) = handler_entry part.event start ++ handler_entries parts starts
+handler_entries _ _ = []
+
+abbrev pub table_code : Project → Core → List Coded
+table_code project core =
+    on_line 0 (core_table_words core ∷ 0xffff ∷ init_start project core ∷ handler_entries core.parts (part_starts project core))
+
+abbrev pub parts_code : Project → List ℕ → List CorePart → List Coded
+parts_code project starts parts = flat_map (part_code project starts) parts
+
+-- the code of a core for a project
+abbrev pub core_code : Project → Core → List Coded
+core_code project core =
+    let starts = part_starts project core in
+    let init = init_code project starts core in
+    table_code project core
+    ++ (if is_large project then parts_code project starts (filter is_sub core.parts) ++ init ++ parts_code project starts (filter is_handler core.parts)
+    else init ++ parts_code project starts core.parts)
+
+-- the words alone, and the line of each
+abbrev pub code_words : Project → Core → List ℕ
+code_words project core = map (λ coded. coded.word) (core_code project core)
+
+abbrev pub code_lines : Project → Core → List ℕ
+code_lines project core = map (λ coded. coded.line) (core_code project core)
