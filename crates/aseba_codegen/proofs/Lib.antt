@@ -1,3 +1,6 @@
 pub mod BeatLaws
+mod Exprs
+mod Reach
 pub mod Rows
+mod TickRows
 mod WordRows
