@@ -21,8 +21,9 @@ use Rattle.aseba_vm.specs.State.{State}
 use Rattle.aseba_vm.specs.Outcome.{index_in}
 use Rattle.aseba_vm.specs.Tick.{ticked}
 use Rattle.aseba_codegen.specs.Words.{Coded, instruction, twelve_bits, sixteen_bits, large_number_code, expr_code}
+use Rattle.aseba_codegen.specs.Agrees.{line_at}
 use Rattle.aseba_codegen.proofs.TickRows.{put, halted, Ready, small-tick, large-tick, load-tick, load_indirect-tick, load_outside-tick, unary-tick, binary-tick, divide-tick}
-use Rattle.aseba_codegen.proofs.Reach.{line_at, Holds, Lined, lined-split, line-of, lined-line, Reaches, reached, one-quiet}
+use Rattle.aseba_codegen.proofs.Reach.{Holds, Lined, lined-split, line-of, lined-line, Reaches, reached, one-quiet}
 
 -- what an expression asks of a number of cells: its numbers are cells, and its cells are there
 abbrev pub Sits : ℕ → CoreExpr → Type 0
@@ -45,7 +46,7 @@ pub record Runs (code : List Coded) (m : State) : Type 0 where
   pub many : length m.cells ≤ 4096
 
 -- an index as a place on both sides
-place-cases : (size : ℕ) (v : ℤ)
+pub place-cases : (size : ℕ) (v : ℤ)
     → ((p : ℕ) × (place_among size v ≡ Ok p) × (index_in size v ≡ Some p) × (p < size)) ⊎ ((place_among size v ≡ Err (outside size v)) × (index_in size v ≡ None))
 place-cases size (pos i) = by_test (nat_lt i size) refl
   where

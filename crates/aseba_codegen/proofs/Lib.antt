@@ -1,6 +1,8 @@
 pub mod BeatLaws
 mod Exprs
+mod Groups
 mod Reach
 pub mod Rows
 mod TickRows
+mod Values
 mod WordRows

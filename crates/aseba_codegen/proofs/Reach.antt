@@ -8,11 +8,8 @@ use Rattle.aseba_vm.specs.State.{State}
 use Rattle.aseba_vm.specs.Tick.{ticked}
 use Rattle.aseba_codegen.specs.Table.{is_effect}
 use Rattle.aseba_codegen.specs.Words.{Coded, on_line}
+use Rattle.aseba_codegen.specs.Agrees.{line_at}
 use Rattle.aseba_codegen.proofs.TickRows.{put, Ready}
-
--- the line of a place in the code
-abbrev pub line_at : List Coded → ℕ → ℕ
-line_at code at = slice_index_or (map (λ c. c.line) code) at 0
 
 -- what a memory with this code has, but for the words that change as they run
 abbrev pub Holds : List Coded → List ℕ → Type 0

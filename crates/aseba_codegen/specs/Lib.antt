@@ -1,4 +1,6 @@
+pub mod Agrees
 pub mod Beats
+pub mod CoreRun
 pub mod Table
 pub mod Words
 pub mod Worked

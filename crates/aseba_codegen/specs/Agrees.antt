@@ -1,0 +1,164 @@
+-- How a machine that runs the code of a core stands to the core.
+use Rattle.std.specs.Prelude.{◌≡◌, ℕ, zero, suc, ◌+◌, ◌<◌, ◌≤◌, nat_lt, nat_le, nat_eq, Bool, true, false, ◌&&◌, not, if◌then◌else◌, IsTrue, ℤ, pos, negsuc, List, [], ◌∷◌, map, length, take, All, slice_index}
+use Rattle.std.specs.List.{list_all}
+use Rattle.aseba_tree.specs.Code.{Project}
+use Rattle.aseba_tree.specs.Line.{Line, line_by}
+use Rattle.aseba_tree.specs.Script.{Script, actions_at}
+use Rattle.aseba_tree.specs.Core.{CoreExpr, fixed, cell, indirect, prefix, infix_of, CoreTarget, into, into_index, CoreStmt, core_stmt, CoreForm, store, branch, on_edge, loop, send, enter, use_native, go_back, CoreStmts, no_core, core_stmts, CorePart, Core}
+use Rattle.aseba_tree.specs.CoreNumbers.{core_weight}
+use Rattle.aseba_tree.specs.CoreShape.{IsCore}
+use Rattle.aseba_tree.specs.CoreStep.{CoreProgram, CoreState, core_next_line}
+use Rattle.aseba_vm.specs.declared.tick.Tick.{Tick}
+use Rattle.aseba_vm.specs.declared.tick.Tick.TheVariants.{Sent}
+use Rattle.aseba_vm.specs.declared.tick.Notice.{Notice}
+use Rattle.aseba_vm.specs.declared.tick.Notice.TheVariants.{NodeError}
+use Rattle.aseba_vm.specs.State.{State}
+use Rattle.aseba_vm.specs.Instructions.{was_true}
+use Rattle.aseba_vm.specs.Tick.{ticked}
+use Rattle.aseba_codegen.specs.Table.{Layout, Run, all_acting, ticking, all_ticking, beginning, started, table_beats}
+use Rattle.aseba_codegen.specs.Words.{Coded, core_code, code_words, code_lines}
+use Rattle.aseba_codegen.specs.CoreRun.{CoreRun, core_run_of, CorePaced}
+
+-- What is asked of projects and cores
+
+-- a node as its numbers may be
+pub record IsNode (project : Project) : Type 0 where
+  pub code : project.node.code ≤ 32767
+  pub cells : project.node.cells ≤ 4096
+  pub id : project.id < 65536
+  pub events : length project.events ≤ 4096
+  pub sizes : All (λ v. 1 ≤ v.size) project.node.variables
+
+-- a number from -32768 to 32767
+abbrev pub is_cell : ℤ → Bool
+is_cell (pos n) = nat_lt n 32768
+is_cell (negsuc n) = nat_lt n 32768
+
+-- An expression's numbers are cells, and what it indexes has one at least.
+abbrev pub has_cells : CoreExpr → Bool
+has_cells (fixed v) = is_cell v
+has_cells (cell address) = true
+has_cells (indirect base size i) = nat_lt 0 size && has_cells i
+has_cells (prefix op e) = has_cells e
+has_cells (infix_of op l r) = has_cells l && has_cells r
+
+abbrev pub target_has_cells : CoreTarget → Bool
+target_has_cells (into address) = true
+target_has_cells (into_index base size i) = nat_lt 0 size && has_cells i
+
+-- so it is with all expressions in statements
+abbrev mutual
+  pub stmt_has_cells : CoreStmt → Bool
+  stmt_has_cells (core_stmt line form) = form_has_cells form
+
+  pub form_has_cells : CoreForm → Bool
+  form_has_cells (store target e) = target_has_cells target && has_cells e
+  form_has_cells (branch c body other) = has_cells c && list_has_cells body && list_has_cells other
+  form_has_cells (on_edge c body) = has_cells c && list_has_cells body
+  form_has_cells (loop c body) = has_cells c && list_has_cells body
+  form_has_cells _ = true
+
+  pub list_has_cells : CoreStmts → Bool
+  list_has_cells no_core = true
+  list_has_cells (core_stmts s ss) = stmt_has_cells s && list_has_cells ss
+
+abbrev pub core_has_cells : Core → Bool
+core_has_cells core = list_has_cells core.init && list_all (λ part. list_has_cells part.body) core.parts
+
+-- the line of the first statement, or another where there is none
+abbrev pub first_line : ℕ → CoreStmts → ℕ
+first_line other no_core = other
+first_line other (core_stmts (core_stmt line form) ss) = line
+
+abbrev pub is_kept_on : (cells line : ℕ) → CoreForm → CoreStmts → Bool
+is_kept_on cells line (store (into address) e) rest = if nat_le cells address then nat_eq line (first_line line rest) else true
+is_kept_on cells line _ rest = true
+
+-- a store into a temporary has the line of the statement behind it
+abbrev mutual
+  pub stmt_is_lined : (cells : ℕ) → CoreStmt → CoreStmts → Bool
+  stmt_is_lined cells (core_stmt line form) rest = is_kept_on cells line form rest && form_is_lined cells form
+
+  pub form_is_lined : (cells : ℕ) → CoreForm → Bool
+  form_is_lined cells (branch c body other) = list_is_lined cells body && list_is_lined cells other
+  form_is_lined cells (on_edge c body) = list_is_lined cells body
+  form_is_lined cells (loop c body) = list_is_lined cells body
+  form_is_lined cells _ = true
+
+  pub list_is_lined : (cells : ℕ) → CoreStmts → Bool
+  list_is_lined cells no_core = true
+  list_is_lined cells (core_stmts s ss) = stmt_is_lined cells s ss && list_is_lined cells ss
+
+abbrev pub core_is_lined : Core → Bool
+core_is_lined core = list_is_lined core.cells core.init && list_all (λ part. list_is_lined core.cells part.body) core.parts
+
+-- statements that only store and send
+abbrev pub is_straight_form : CoreForm → Bool
+is_straight_form (store target e) = true
+is_straight_form (send event address count) = true
+is_straight_form _ = false
+
+abbrev pub is_straight : CoreStmts → Bool
+is_straight no_core = true
+is_straight (core_stmts (core_stmt line form) ss) = is_straight_form form && is_straight ss
+
+-- A core of such statements without parts, which its node has room for.
+pub record IsStraightCore (project : Project) (core : Core) : Type 0 where
+  pub node : IsNode project
+  pub shape : IsCore project core
+  pub size : core.size ≤ project.node.code
+  pub depth : core.depth ≤ project.node.stack
+  pub numbers : IsTrue (core_has_cells core)
+  pub lined : IsTrue (core_is_lined core)
+  pub straight : IsTrue (is_straight core.init)
+  pub alone : core.parts ≡ []
+
+-- What is seen of both
+
+-- the line of a place in the code
+abbrev pub line_at : List Coded → ℕ → ℕ
+line_at code at = slice_index (map (λ c. c.line) code) at
+
+-- the truths that the `when`s of a code remember, in their order
+abbrev pub truths : List Coded → List ℕ → List Bool
+truths (c ∷ code) (word ∷ memory) = if c.is_edge then was_true word ∷ truths code memory else truths code memory
+truths _ _ = []
+
+-- The cells of variables, the `when` bits, what is held for variables and the flags are the same, and the counter stands on the line of the effect that is next.
+pub record Seen (code : List Coded) (cells : ℕ) (m : State) (s : CoreState) : Type 0 where
+  pub cells_alike : take cells m.cells ≡ take cells s.cells
+  pub bits_alike : truths code m.code ≡ s.bits
+  pub held_alike : take cells m.held ≡ take cells s.held
+  pub active_alike : m.active ≡ s.active
+  pub paused_alike : m.paused ≡ s.paused
+  pub line_alike : s.active ≡ true → line_at code m.pc ≡ core_next_line s
+
+-- a tick that is a node error
+abbrev pub is_error_notice : Notice → Bool
+is_error_notice (NodeError pc fault) = true
+is_error_notice _ = false
+
+abbrev pub is_error : Tick → Bool
+is_error (Sent notice) = is_error_notice notice
+is_error _ = false
+
+-- which ticks of a run were node errors, one truth for each
+abbrev pub errors_from : Project → Layout → Script → ℕ → Run → List Bool
+errors_from project layout script zero run = []
+errors_from project layout script (suc n) run =
+    is_error (ticked (all_acting project layout run (actions_at script run.ticks)).machine).0 ∷ errors_from project layout script n (ticking project layout script run)
+
+-- After some ticks the machine stands at the core's state after as many steps as there were effects, and both told the same, with a place of the code where
+-- the core has a line.
+pub record RunsAlike (program : CoreProgram) (layout : Layout) (script : Script) (n : ℕ) : Type 0 where
+  pub lines : map (line_by (line_at (core_code program.project program.core))) (all_ticking program.project layout script n (beginning (started program.project (code_words program.project program.core)))).lines
+      ≡ (core_run_of program script (table_beats program.project layout (code_words program.project program.core) script n)).lines
+  pub seen : Seen (core_code program.project program.core) program.core.cells (all_ticking program.project layout script n (beginning (started program.project (code_words program.project program.core)))).machine
+      (core_run_of program script (table_beats program.project layout (code_words program.project program.core) script n)).state
+  pub paced : CorePaced (core_weight program.core) program script (table_beats program.project layout (code_words program.project program.core) script n)
+  pub no_error : IsTrue (list_all not (errors_from program.project layout script n (beginning (started program.project (code_words program.project program.core)))))
+
+-- Straight code, run without a script, runs as its core does.
+abbrev pub StraightCodeRuns : Type 0
+StraightCodeRuns =
+    (program : CoreProgram) (layout : Layout) (n : ℕ) → IsStraightCore program.project program.core → layout.cells ≡ program.core.cells → RunsAlike program layout [] n
