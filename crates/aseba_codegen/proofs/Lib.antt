@@ -1,6 +1,8 @@
 pub mod BeatLaws
 mod Exprs
 mod Groups
+mod Lengths
+mod Placing
 mod Reach
 pub mod Rows
 mod TickRows
