@@ -143,6 +143,7 @@ module _ (program : CoreProgram) (code : List Coded) (weight : ℕ) where
     pub reads : Reads kept m s
     pub placed : Placed m.shape.stack s.work m.pc kept 0
     pub empty : m.stack ≡ []
+    pub unpaused : m.paused ≡ false
 
   pub record Aligned (m : State) (s : CoreState) : Type 0 where
     pub base : Base m s
@@ -315,7 +316,7 @@ module _ (program : CoreProgram) (code : List Coded) (weight : ℕ) where
       let tick : ticked (put m (v ∷ []) at) ≡ (Stored a, stored m a v [] (at + 1)) = store-tick (put m (v ∷ []) at) a v [] low refl (ready m t kept (v ∷ []) at line _ g lined.0) in_m in
       let next : Aligned (stored m a v [] (at + 1)) (record (core_stored t a v) { work = rest }) = record {
         base = stored-base m t [] (at + 1) a v rest in_room g.base;
-        works = λ active. record { kept = kept; reads = kept-reads m t a v kept inside g.base g.reads; placed = placed; empty = refl };
+        works = λ active. record { kept = kept; reads = kept-reads m t a v kept inside g.base g.reads; placed = placed; empty = refl; unpaused = g.unpaused };
       } in
       reached code program.core.cells (Lands (core_storing line (record t { work = rest }) (Ok v) (Ok a))) b (put m (v ∷ []) at)
       (lands-by (core_storing line (record t { work = rest }) (Ok v) (Ok a)) (put m (v ∷ []) at) (stored m a v [] (at + 1)) (Stored a) tick (lt-ltb _ _ inside) refl refl next)
@@ -416,7 +417,7 @@ module _ (program : CoreProgram) (code : List Coded) (weight : ℕ) where
             let tick : ticked (put m top at) ≡ (Stored a, stored m a v [] (at + 2)) = store_indirect-tick (put m top at) base size v i c.0 [] low refl (ready m t kept top at line _ g lined.0) second c.2 in_m in
             let next : Aligned (stored m a v [] (at + 2)) (record (core_stored t a v) { work = rest }) = record {
               base = stored-base m t [] (at + 2) a v rest in_room g.base;
-              works = λ active. record { kept = kept; reads = kept-reads m t a v kept within g.base g.reads; placed = placed; empty = refl };
+              works = λ active. record { kept = kept; reads = kept-reads m t a v kept within g.base g.reads; placed = placed; empty = refl; unpaused = g.unpaused };
             } in
             let lands : G (Ok c.0) (put m top at) = lands-by (core_storing line r (Ok v) (Ok a)) (put m top at) (stored m a v [] (at + 2)) (Stored a) tick (lt-ltb _ _ within) refl refl next in
             reached code program.core.cells (G (place_among size i)) b (put m top at) (subst (λ p. G p (put m top at)) (sym c.1) lands)
@@ -504,7 +505,7 @@ module _ (program : CoreProgram) (code : List Coded) (weight : ℕ) where
       let after : CoreStepped = record { state = record t { work = rest }; report = Some (sent (event_numbered program.project event) (slice_range t.cells address (address + count))) } in
       let next : Aligned (put m [] (at + 3)) (record t { work = rest }) = record {
         base = put-base m t [] (at + 3) rest g.base;
-        works = λ active. record { kept = kept; reads = g.reads; placed = placed; empty = refl };
+        works = λ active. record { kept = kept; reads = g.reads; placed = placed; empty = refl; unpaused = g.unpaused };
       } in
       reached code program.core.cells (Lands after) n (put m [] at)
       (lands-by after (put m [] at) (put m [] (at + 3)) (Sent (Emit event address count)) tick refl refl (rw (name, cells) refl) next)

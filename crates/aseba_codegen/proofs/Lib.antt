@@ -1,3 +1,4 @@
+mod Begin
 pub mod BeatLaws
 mod Exprs
 mod Groups
@@ -5,6 +6,7 @@ mod Lengths
 mod Placing
 mod Reach
 pub mod Rows
+mod Runs
 mod TickRows
 mod Values
 mod WordRows
