@@ -6,7 +6,7 @@ mod Lengths
 mod Placing
 mod Reach
 pub mod Rows
-mod Runs
+pub mod Runs
 mod TickRows
 mod Values
 mod WordRows

@@ -5,7 +5,7 @@ use Rattle.std.specs.List.{list_all, list_any}
 use Rattle.std.specs.Prelude.{option_to_list}
 use Rattle.aseba_tree.specs.Code.{Project, Sized}
 use Rattle.aseba_tree.specs.Line.{Report, report_by, Line, told, line_by}
-use Rattle.aseba_tree.specs.Core.{CoreStmts, Core}
+use Rattle.aseba_tree.specs.Core.{CoreStmts, CorePart, Core}
 use Rattle.aseba_tree.specs.CoreNumbers.{core_weight, core_list_weight}
 use Rattle.aseba_tree.specs.CoreStep.{CoreProgram, CoreState, CoreStepped, core_is_running, core_first_done, core_step, core_loaded, core_next_line}
 use Rattle.aseba_vm.specs.declared.tick.Tick.{Tick}
@@ -17,9 +17,10 @@ use Rattle.aseba_codegen.specs.Table.{Layout, Run, is_effect, tick_reports, step
 use Rattle.aseba_codegen.specs.Words.{Coded, core_code, code_words}
 use Rattle.aseba_codegen.specs.CoreRun.{CoreRun, core_telling, core_stepping, core_ticking, core_all_ticking, core_begin_of, core_run_of, CoreMoment, core_moment, core_moments_from, core_moments, is_one_core_handler, CorePaced}
 use Rattle.aseba_codegen.specs.Agrees.{IsStraightCore, IsNode, line_at, is_error, errors_from, Seen, RunsAlike, StraightCodeRuns}
+use Rattle.aseba_codegen.proofs.BeatLaws.{beats_are_ticks}
 use Rattle.aseba_codegen.proofs.TickRows.{put}
 use Rattle.aseba_codegen.proofs.Reach.{Same, Hidden, Reaches}
-use Rattle.aseba_codegen.proofs.Values.{and-left, and-right}
+use Rattle.aseba_codegen.proofs.Values.{and-left, and-right, and-both}
 use Rattle.aseba_codegen.proofs.Placing.{weight-least}
 use Rattle.aseba_codegen.proofs.Groups.{Base, Reads, Placed, Working, Aligned, Lands, Going, placed-line, group-run}
 use Rattle.aseba_codegen.proofs.Begin.{alone, alone_program, first-aligned}
@@ -40,6 +41,10 @@ silent-sound n Quiet h = refl
 silent-sound n (Stored address) h = refl
 silent-sound n Effect h = refl
 silent-sound n (Sent notice) h = absurd (true≢false h)
+
+now-or-later : (x y : Bool) → (x ≡ false → y ≡ true) → (x || y) ≡ true
+now-or-later true y h = refl
+now-or-later false y h = h refl
 
 -- lines are told alike where their reports are
 told-alike : (f : ℕ → ℕ) (t k : ℕ) (reports others : List Report) → map (report_by f) reports ≡ others → map (line_by f) (map (told t k) reports) ≡ map (told t k) others
@@ -219,18 +224,168 @@ module _ (program : CoreProgram) (code : List Coded) (weight : ℕ) (layout : La
       by_active true active = running-tick events heavy same b r c along active (along.ahead active)
       by_active false rests = inr (inr (resting-tick same b r c along rests))
 
-  -- Many ticks
+  -- a tick in one piece, with what the core's run makes of it
+  pub record Goes (b : ℕ) (r : Run) (c : CoreRun) : Type 0 where
+    pub sound : is_error (ticked r.machine).0 ≡ false
+    pub rests : (not (is_effect layout.cells (ticked r.machine).0) || core_is_running c.state) ≡ true
+    pub less : ℕ
+    pub small : less + 1 ≤ weight
+    pub sooner : is_effect layout.cells (ticked r.machine).0 ≡ false → core_is_running c.state ≡ true → less + 1 ≤ b
+    pub next : Along less (ticking program.project layout [] r) (core_ticking program [] c (is_effect layout.cells (ticked r.machine).0))
 
-  pub along-all : length program.project.events ≤ 4096 → 3 ≤ weight → layout.cells ≡ cells → (n b : ℕ) (r : Run) (c : CoreRun) → Along b r c
-      → (k : ℕ) × Along k (all_ticking program.project layout [] n r) (core_all_ticking program [] c (beats_from program.project layout [] n r))
-  along-all events heavy same zero b r c along = (b, along)
-  along-all events heavy same (suc n) b r c along =
-      let next : Run = ticking program.project layout [] r in
-      let goes_on : (beat : Bool) → is_effect cells (ticked r.machine).0 ≡ beat → (k : ℕ) → Along k next (core_ticking program [] c beat)
-      → (k : ℕ) × Along k (all_ticking program.project layout [] n next) (core_all_ticking program [] (core_ticking program [] c (is_effect layout.cells (ticked r.machine).0)) (beats_from program.project layout [] n next)) =
-      λ beat e k h. let said : beat ≡ is_effect layout.cells (ticked r.machine).0 = sym (ap (λ n. is_effect n (ticked r.machine).0) same ∙ e) in
-      along-all events heavy same n k next (core_ticking program [] c (is_effect layout.cells (ticked r.machine).0)) (subst (λ x. Along k next (core_ticking program [] c x)) said h) in
+  goes : length program.project.events ≤ 4096 → 3 ≤ weight → layout.cells ≡ cells → (b : ℕ) (r : Run) (c : CoreRun) → b + 1 ≤ weight → Along b r c → Goes b r c
+  goes events heavy same b r c small along =
+      let is : (beat : Bool) → is_effect cells (ticked r.machine).0 ≡ beat → is_effect layout.cells (ticked r.machine).0 ≡ beat = λ beat e. ap (λ n. is_effect n (ticked r.machine).0) same ∙ e in
       elim (one-tick events heavy same b r c along) [
-        | inl t ↦ goes_on true t.beat (weight - 1) t.next
-        | inr t ↦ elim t [ inl w ↦ goes_on false w.beat w.less w.next | inr q ↦ goes_on false q.beat b q.next ]
+        | inl t ↦
+            let beat : is_effect layout.cells (ticked r.machine).0 ≡ true = is true t.beat in
+            record {
+              sound = t.sound;
+              rests = rw (beat, t.runs) refl;
+              less = weight - 1;
+              small = omega arith;
+              sooner = λ none. absurd (true≢false (sym beat ∙ none));
+              next = subst (λ x. Along (weight - 1) (ticking program.project layout [] r) (core_ticking program [] c x)) (sym beat) t.next;
+            }
+        | inr q ↦ elim q [
+          | inl t ↦
+              let beat : is_effect layout.cells (ticked r.machine).0 ≡ false = is false t.beat in
+              record {
+                sound = t.sound;
+                rests = rw beat refl;
+                less = t.less;
+                small = let e = t.counts in omega arith;
+                sooner = λ none runs. let e = t.counts in omega arith;
+                next = subst (λ x. Along t.less (ticking program.project layout [] r) (core_ticking program [] c x)) (sym beat) t.next;
+              }
+          | inr t ↦
+              let beat : is_effect layout.cells (ticked r.machine).0 ≡ false = is false t.beat in
+              record {
+                sound = t.sound;
+                rests = rw beat refl;
+                less = b;
+                small = small;
+                sooner = λ none runs. absurd (true≢false (sym runs ∙ t.rests));
+                next = subst (λ x. Along b (ticking program.project layout [] r) (core_ticking program [] c x)) (sym beat) t.next;
+              }
+        ]
       ]
+
+  module _ (events : length program.project.events ≤ 4096) (heavy : 3 ≤ weight) (same : layout.cells ≡ cells) where
+    abbrev beats : ℕ → Run → List Bool
+    beats n r = beats_from program.project layout [] n r
+
+    abbrev moments : ℕ → Run → CoreRun → List CoreMoment
+    moments n r c = core_moments_from program [] c (beats n r)
+
+    pub along-all : (n b : ℕ) (r : Run) (c : CoreRun) → b + 1 ≤ weight → Along b r c → (k : ℕ) × Along k (all_ticking program.project layout [] n r) (core_all_ticking program [] c (beats n r))
+    along-all zero b r c small along = (b, along)
+    along-all (suc n) b r c small along =
+        let g : Goes b r c = goes events heavy same b r c small along in
+        along-all n g.less (ticking program.project layout [] r) (core_ticking program [] c (is_effect layout.cells (ticked r.machine).0)) g.small g.next
+
+    pub no-errors : (n b : ℕ) (r : Run) (c : CoreRun) → b + 1 ≤ weight → Along b r c → list_all not (errors_from program.project layout [] n r) ≡ true
+    no-errors zero b r c small along = refl
+    no-errors (suc n) b r c small along =
+        let g : Goes b r c = goes events heavy same b r c small along in
+        let rest : list_all not (errors_from program.project layout [] n (ticking program.project layout [] r)) ≡ true =
+        no-errors n g.less (ticking program.project layout [] r) (core_ticking program [] c (is_effect layout.cells (ticked r.machine).0)) g.small g.next in
+        rw (g.sound) rest
+
+    pub all-rest : (n b : ℕ) (r : Run) (c : CoreRun) → b + 1 ≤ weight → Along b r c → list_all (λ m. not m.steps || m.runs) (moments n r c) ≡ true
+    all-rest zero b r c small along = refl
+    all-rest (suc n) b r c small along =
+        let g : Goes b r c = goes events heavy same b r c small along in
+        let beat : Bool = is_effect layout.cells (ticked r.machine).0 in
+        let next : Run = ticking program.project layout [] r in
+        let rest : list_all (λ m. not m.steps || m.runs) (moments n next (core_ticking program [] c beat)) ≡ true = all-rest n g.less next (core_ticking program [] c beat) g.small g.next in
+        and-both (not beat || core_is_running c.state) (list_all (λ m. not m.steps || m.runs) (moments n next (core_ticking program [] c beat))) g.rests rest
+
+    -- among so many ticks of a handler one is a step
+    pub soon : (n w b : ℕ) (r : Run) (c : CoreRun) → b + 1 ≤ w → w ≤ n → w ≤ weight → Along b r c → list_all (λ m. m.runs) (take w (moments n r c)) ≡ true → list_any (λ m. m.steps) (take w (moments n r c)) ≡ true
+    soon n zero b r c small fits light along runs = absurd (omega arith)
+    soon zero (suc w) b r c small fits light along runs = absurd (omega arith)
+    soon (suc n) (suc w) b r c small fits light along runs =
+        let g : Goes b r c = goes events heavy same b r c (omega arith) along in
+        let beat : Bool = is_effect layout.cells (ticked r.machine).0 in
+        let next : Run = ticking program.project layout [] r in
+        let rest : List CoreMoment = take w (moments n next (core_ticking program [] c beat)) in
+        let here : core_is_running c.state ≡ true = and-left (core_is_running c.state) (list_all (λ m. m.runs) rest) runs in
+        let later : list_all (λ m. m.runs) rest ≡ true = and-right (core_is_running c.state) (list_all (λ m. m.runs) rest) runs in
+        now-or-later beat (list_any (λ m. m.steps) rest)
+        (λ silent. let sooner : g.less + 1 ≤ b = g.sooner silent here in soon n w g.less next (core_ticking program [] c beat) (omega arith) (omega arith) (omega arith) g.next later)
+
+    pub keeps-pace : (first n b : ℕ) (r : Run) (c : CoreRun) → b + 1 ≤ weight → first + weight ≤ n → Along b r c → is_one_core_handler (take weight (drop first (moments n r c))) ≡ true
+        → list_any (λ m. m.steps) (take weight (drop first (moments n r c))) ≡ true
+    keeps-pace zero n b r c small fits along one =
+        soon n weight b r c small (omega arith) (omega arith) along (and-left (list_all (λ m. m.runs) (take weight (moments n r c))) (not (list_any (λ m. m.begins) (drop 1 (take weight (moments n r c))))) one)
+    keeps-pace (suc first) zero b r c small fits along one = absurd (omega arith)
+    keeps-pace (suc first) (suc n) b r c small fits along one =
+        let g : Goes b r c = goes events heavy same b r c small along in
+        keeps-pace first n g.less (ticking program.project layout [] r) (core_ticking program [] c (is_effect layout.cells (ticked r.machine).0)) g.small (omega arith) g.next one
+
+  -- what is seen of both
+  pub seen : (b : ℕ) (r : Run) (c : CoreRun) → Along b r c → Seen code cells r.machine c.state
+  seen b r c along =
+      let base : Base program code weight r.machine c.state = along.base in
+      let long : cells ≤ length (r.machine).cells = let l = base.long in omega arith in
+      let core_long : cells ≤ length (c.state).cells = let l = base.core_long in omega arith in
+      let held_long : cells ≤ length (r.machine).held = let l = base.held_long in omega arith in
+      let core_held_long : cells ≤ length (c.state).held = let l = base.core_held_long in omega arith in
+      record {
+        cells_alike = taken-alike (pos 0) cells (r.machine).cells (c.state).cells long core_long base.same_cells;
+        bits_alike = base.same_bits;
+        held_alike = taken-alike None cells (r.machine).held (c.state).held held_long core_held_long base.same_held;
+        active_alike = base.same_active;
+        paused_alike = base.same_paused;
+        line_alike = along.on_line;
+      }
+
+-- The whole run
+
+module _ (project : Project) (variables : List Sized) (init : CoreStmts) (cells room size depth : ℕ) (layout : Layout) (n : ℕ) where
+  alone-runs : IsStraightCore project (alone project variables init cells room size depth) → layout.cells ≡ cells → RunsAlike (alone_program project variables init cells room size depth) layout [] n
+  alone-runs h same =
+      let core : Core = alone project variables init cells room size depth in
+      let program : CoreProgram = alone_program project variables init cells room size depth in
+      let code : List Coded = core_code project core in
+      let weight : ℕ = core_weight core in
+      let node : IsNode project = h.node in
+      let events : length project.events ≤ 4096 = node.events in
+      let heavy : 3 ≤ weight = let l = weight-least cells init 0 in omega arith in
+      let m : State = started project (code_words project core) in
+      let s : CoreState = core_loaded program in
+      let aligned : Aligned program code weight m s = first-aligned project variables init cells room size depth h in
+      let r : Run = beginning m in
+      let c : CoreRun = core_begin_of program in
+      let works : s.active ≡ true → Working program code weight m s = aligned.works in
+      let along : Along program code weight layout (weight - 1) r c = record {
+        ticks = refl;
+        effects = refl;
+        lines = refl;
+        base = aligned.base;
+        on_line = λ on. let w : Working program code weight m s = works on in placed-line program code weight (m.shape).stack s.work m.pc w.kept 0 w.placed;
+        unpaused = λ on. let w : Working program code weight m s = works on in sym (aligned.base).same_paused ∙ w.unpaused;
+        ahead = λ on. aligned-ahead program code weight layout events heavy m s aligned on;
+      } in
+      let small : weight - 1 + 1 ≤ weight = omega arith in
+      let end = along-all program code weight layout events heavy same n (weight - 1) r c small along in
+      let last = end.1 in
+      let many : length (table_beats project layout (code_words project core) [] n) ≡ n = beats_are_ticks project layout (code_words project core) [] n in
+      record {
+        lines = last.lines;
+        seen = seen program code weight layout end.0 (all_ticking project layout [] n r) (core_all_ticking program [] c (beats_from project layout [] n r)) end.1;
+        paced = record {
+          rests = all-rest program code weight layout events heavy same n (weight - 1) r c small along;
+          keeps_pace = λ first fits one. keeps-pace program code weight layout events heavy same first n (weight - 1) r c small (omega arith) along one;
+        };
+        no_error = no-errors program code weight layout events heavy same n (weight - 1) r c small along;
+      }
+
+pub straight_code_runs : StraightCodeRuns
+straight_code_runs program layout n h same =
+    let core : Core = program.core in
+    let bare : List CorePart → CoreProgram = λ parts. record program { core = record core { parts = parts } } in
+    let e : core.parts ≡ [] = h.alone in
+    let straight : IsStraightCore program.project (record core { parts = [] }) = subst (λ parts. IsStraightCore program.project (record core { parts = parts })) e h in
+    subst (λ parts. RunsAlike (bare parts) layout [] n) (sym e) (alone-runs program.project program.variables core.init core.cells core.room core.size core.depth layout n straight same)

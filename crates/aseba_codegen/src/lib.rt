@@ -3,6 +3,7 @@
 //! a check proves what they say.
 #![tactic(auto)]
 
+ghost use Rattle.aseba_codegen.specs.Agrees.{StraightCodeRuns};
 ghost use Rattle.aseba_codegen.specs.Beats.{BeatsAreTicks, TrueBeatsAreEffects};
 ghost use Rattle.aseba_codegen.specs.Worked.{ForLoop, KillInExpression, SubCall, WhenEdge};
 
@@ -22,4 +23,10 @@ pub fn worked_runs()
     ensures sub_call { SubCall }
     ensures when_edge { WhenEdge }
     ensures kill_in_expression { KillInExpression }
+{}
+
+/// The code of a core that only stores and sends runs as the core does: with the lines of its
+/// steps, at its pace, and without a node error.
+pub fn straight_code_runs()
+    ensures { StraightCodeRuns }
 {}
