@@ -17,7 +17,8 @@ use Rattle.aseba_vm.specs.Instructions.{was_true}
 use Rattle.aseba_vm.specs.Lists.{handler_of}
 use Rattle.aseba_vm.specs.Loaded.{made, loaded, reset_state, fresh_cells}
 use Rattle.aseba_codegen.specs.Table.{placed_named, shape_of, started}
-use Rattle.aseba_codegen.specs.Words.{Coded, Site, on_line, instruction, store_code, site_of, form_code, list_code, body_code, init_code, init_start, part_starts, table_code, core_code, code_words}
+use Rattle.aseba_codegen.specs.declared.coded.Coded.{Coded}
+use Rattle.aseba_codegen.specs.Words.{Site, on_line, instruction, store_code, site_of, form_code, list_code, body_code, init_code, init_start, part_starts, table_code, core_code, code_words}
 use Rattle.aseba_codegen.specs.Agrees.{IsNode, IsStraightCore, truths, is_straight, is_straight_form, list_has_cells, list_is_lined}
 use Rattle.aseba_codegen.proofs.Reach.{Holds, Lined, Stands, stands-split, stands-lined}
 use Rattle.aseba_codegen.proofs.Values.{and-left, and-right}

@@ -20,7 +20,8 @@ use Rattle.aseba_vm.specs.declared.tick.Notice.TheVariants.{Bounds, Division}
 use Rattle.aseba_vm.specs.State.{State}
 use Rattle.aseba_vm.specs.Outcome.{index_in}
 use Rattle.aseba_vm.specs.Tick.{ticked}
-use Rattle.aseba_codegen.specs.Words.{Coded, instruction, twelve_bits, sixteen_bits, large_number_code, expr_code}
+use Rattle.aseba_codegen.specs.declared.coded.Coded.{Coded}
+use Rattle.aseba_codegen.specs.Words.{instruction, twelve_bits, sixteen_bits, large_number_code, expr_code}
 use Rattle.aseba_codegen.specs.Agrees.{line_at}
 use Rattle.aseba_codegen.proofs.TickRows.{put, halted, Ready, small-tick, large-tick, load-tick, load_indirect-tick, load_outside-tick, unary-tick, binary-tick, divide-tick}
 use Rattle.aseba_codegen.proofs.Reach.{Holds, Lined, lined-split, line-of, lined-line, Reaches, reached, one-quiet}

@@ -19,7 +19,8 @@ use Rattle.aseba_vm.specs.declared.tick.Notice.TheVariants.{Emit, Bounds, Divisi
 use Rattle.aseba_vm.specs.State.{State, applied, ended, none_held}
 use Rattle.aseba_vm.specs.Tick.{ticked}
 use Rattle.aseba_codegen.specs.Table.{is_effect, tick_reports, event_of}
-use Rattle.aseba_codegen.specs.Words.{Coded, Site, instruction, expr_code, store_code, form_code}
+use Rattle.aseba_codegen.specs.declared.coded.Coded.{Coded}
+use Rattle.aseba_codegen.specs.Words.{Site, instruction, expr_code, store_code, form_code}
 use Rattle.aseba_codegen.specs.Agrees.{line_at, truths, is_error, form_has_cells, target_has_cells, has_cells, is_straight_form}
 use Rattle.aseba_codegen.proofs.TickRows.{put, halted, stored, Ready, store-tick, store_indirect-tick, store_outside-tick, emit-tick, end-tick}
 use Rattle.aseba_codegen.proofs.Reach.{Holds, Lined, lined-split, lined-line, line-of, Same, Hidden, Reaches, reached, one-quiet}

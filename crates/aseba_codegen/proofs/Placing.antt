@@ -7,7 +7,8 @@ use Rattle.aseba_tree.specs.CoreStep.{CoreTask, perform_core, finish_core, CoreP
 use Rattle.aseba_tree.specs.CoreNumbers.{core_form_depth, core_list_depth, kept_nodes, own_nodes, inner_weight, weight_or_kept, core_list_weight}
 use Rattle.aseba_tree.specs.CoreShape.{kept_at, is_last, is_good_form, is_good_list}
 use Rattle.aseba_tree.specs.Numbers.{nodes}
-use Rattle.aseba_codegen.specs.Words.{Coded, Site, instruction, on_line, form_code, list_code, body_code}
+use Rattle.aseba_codegen.specs.declared.coded.Coded.{Coded}
+use Rattle.aseba_codegen.specs.Words.{Site, instruction, on_line, form_code, list_code, body_code}
 use Rattle.aseba_codegen.specs.Agrees.{form_has_cells, list_has_cells, first_line, is_kept_on, form_is_lined, stmt_is_lined, list_is_lined, is_straight_form, is_straight}
 use Rattle.aseba_codegen.proofs.Reach.{Lined, Stands, stands-split, stands-lined}
 use Rattle.aseba_codegen.proofs.Values.{and-left, and-right}

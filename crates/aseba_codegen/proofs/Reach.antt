@@ -7,7 +7,8 @@ use Rattle.aseba_vm.specs.declared.tick.Tick.TheVariants.{Quiet, Stored}
 use Rattle.aseba_vm.specs.State.{State}
 use Rattle.aseba_vm.specs.Tick.{ticked}
 use Rattle.aseba_codegen.specs.Table.{is_effect}
-use Rattle.aseba_codegen.specs.Words.{Coded, on_line}
+use Rattle.aseba_codegen.specs.declared.coded.Coded.{Coded}
+use Rattle.aseba_codegen.specs.Words.{on_line}
 use Rattle.aseba_codegen.specs.Agrees.{line_at}
 use Rattle.aseba_codegen.proofs.TickRows.{put, Ready}
 

@@ -14,7 +14,8 @@ use Rattle.aseba_vm.specs.State.{State}
 use Rattle.aseba_vm.specs.Tick.{ticked}
 use Rattle.aseba_vm.proofs.Ticks.{ticked-idle}
 use Rattle.aseba_codegen.specs.Table.{Layout, Run, is_effect, tick_reports, stepping, ticking, all_ticking, beginning, started, beats_from, table_beats}
-use Rattle.aseba_codegen.specs.Words.{Coded, core_code, code_words}
+use Rattle.aseba_codegen.specs.declared.coded.Coded.{Coded}
+use Rattle.aseba_codegen.specs.Words.{core_code, code_words}
 use Rattle.aseba_codegen.specs.CoreRun.{CoreRun, core_telling, core_stepping, core_ticking, core_all_ticking, core_begin_of, core_run_of, CoreMoment, core_moment, core_moments_from, core_moments, is_one_core_handler, CorePaced}
 use Rattle.aseba_codegen.specs.Agrees.{IsStraightCore, IsNode, line_at, is_error, errors_from, Seen, RunsAlike, StraightCodeRuns}
 use Rattle.aseba_codegen.proofs.BeatLaws.{beats_are_ticks}

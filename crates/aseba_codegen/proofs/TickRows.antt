@@ -1,5 +1,5 @@
 -- One tick of each instruction that code has, where it finds what it needs.
-use Rattle.std.proofs.Common.{◌≡◌, ℕ, zero, suc, ◌+◌, ◌-◌, ◌*◌, ◌<◌, ◌≤◌, ◌&&◌, ◌||◌, Bool, true, false, if◌then◌else◌, nat_lt, nat_le, ℤ, pos, negsuc, ◌-ℤ◌, List, [], ◌∷◌, length, slice_get, slice_set, slice_index_or, Option, Some, None, refl, sym, ap, ◌∙◌, subst, lt-ltb, le-leb, ltb-false, arith}
+use Rattle.std.proofs.Common.{◌≡◌, ℕ, zero, suc, ◌+◌, ◌-◌, ◌*◌, ◌%◌, ◌<◌, ◌≤◌, ◌&&◌, ◌||◌, Bool, true, false, if◌then◌else◌, nat_lt, nat_le, ℤ, pos, negsuc, ◌-ℤ◌, List, [], ◌∷◌, length, slice_get, slice_set, slice_index_or, Option, Some, None, refl, sym, ap, ◌∙◌, subst, lt-ltb, le-leb, ltb-false, arith}
 use Rattle.std.specs.Prelude.{int_lt}
 use Rattle.std.specs.Int.{cast_signed, w16}
 use Rattle.aseba_words.specs.Cell.{unary_value, binary_value}
@@ -37,8 +37,12 @@ pub record Ready (m : State) (word : ℕ) : Type 0 where
 row-tick : (m : State) (number low : ℕ) → low < 4096 → Ready m (instruction number low)
     → ticked m ≡ settled (row (slice_index_or opcodes number NoInstruction) (instruction number low) m).0 (row (slice_index_or opcodes number NoInstruction) (instruction number low) m).1
 row-tick m number low below ready =
-    let named : opcode_of (instruction number low) ≡ slice_index_or opcodes number NoInstruction = opcode_of-word number low below in
+    let named : opcode_of (instruction number low) ≡ slice_index_or opcodes number NoInstruction = opcode_of-word number (low % 4096) (omega arith) in
     ticked-row m (instruction number low) ready.active ready.unpaused ready.at ∙ ap (λ op. settled (row op (instruction number low) m).0 (row op (instruction number low) m).1) named
+
+-- the low bits are read back
+low-of : (number low : ℕ) → low < 4096 → operand_of (instruction number low) ≡ low
+low-of number low below = let same : low % 4096 ≡ low = omega arith in operand_of-word number (low % 4096) (omega arith) ∙ same
 
 -- a number from -2048 to 2047 is read back from twelve bits
 small-is : (v : ℤ) → (int_lt v (negsuc 2047) || int_lt (pos 2047) v) ≡ false → twelve_bits v < 4096
@@ -57,7 +61,7 @@ pub small-tick : (m : State) (v : ℤ) → (int_lt v (negsuc 2047) || int_lt (po
 small-tick m v small ready room =
     let below : twelve_bits v < 4096 = small-is v small in
     let is_room : has_room m ≡ true = lt-ltb _ _ room in
-    let low : operand_of (instruction 1 (twelve_bits v)) ≡ twelve_bits v = operand_of-word 1 (twelve_bits v) below in
+    let low : operand_of (instruction 1 (twelve_bits v)) ≡ twelve_bits v = low-of 1 (twelve_bits v) below in
     let value : signed_operand_of (instruction 1 (twelve_bits v)) ≡ v = rw low (small-below v small) in
     row-tick m 1 (twelve_bits v) below ready ∙ rw (is_room, value) refl
 
@@ -71,7 +75,7 @@ pub load-tick : (m : State) (address : ℕ) (v : ℤ) → address < 4096 → Rea
     → ticked m ≡ (Quiet, put m (v ∷ m.stack) (m.pc + 1))
 load-tick m address v below ready room found =
     let is_room : has_room m ≡ true = lt-ltb _ _ room in
-    let low : operand_of (instruction 3 address) ≡ address = operand_of-word 3 address below in
+    let low : operand_of (instruction 3 address) ≡ address = low-of 3 address below in
     row-tick m 3 address below ready ∙ rw (is_room, low, found) refl
 
 -- a machine with other cells, too
@@ -82,7 +86,7 @@ pub store-tick : (m : State) (address : ℕ) (v : ℤ) (stack : List ℤ) → ad
     → ticked m ≡ (Stored address, stored m address v stack (m.pc + 1))
 store-tick m address v stack below top ready inside =
     let is_inside : nat_lt address (length m.cells) ≡ true = lt-ltb _ _ inside in
-    let low : operand_of (instruction 4 address) ≡ address = operand_of-word 4 address below in
+    let low : operand_of (instruction 4 address) ≡ address = low-of 4 address below in
     row-tick m 4 address below ready ∙ rw (top, low, is_inside) refl
 
 pub load_indirect-tick : (m : State) (base size : ℕ) (v : ℤ) (index : ℤ) (place : ℕ) (stack : List ℤ)
@@ -90,7 +94,7 @@ pub load_indirect-tick : (m : State) (base size : ℕ) (v : ℤ) (index : ℤ) (
     → index_in size index ≡ Some place → slice_get m.cells (base + place) ≡ Some v
     → ticked m ≡ (Quiet, put m (v ∷ stack) (m.pc + 2))
 load_indirect-tick m base size v index place stack below top ready next inside found =
-    let low : operand_of (instruction 5 base) ≡ base = operand_of-word 5 base below in
+    let low : operand_of (instruction 5 base) ≡ base = low-of 5 base below in
     row-tick m 5 base below ready ∙ rw (next, top, inside, low, found) refl
 
 pub load_outside-tick : (m : State) (base size : ℕ) (index : ℤ) (stack : List ℤ)
@@ -104,7 +108,7 @@ pub store_indirect-tick : (m : State) (base size : ℕ) (v index : ℤ) (place :
     → index_in size index ≡ Some place → base + place < length m.cells
     → ticked m ≡ (Stored (base + place), stored m (base + place) v stack (m.pc + 2))
 store_indirect-tick m base size v index place stack below top ready next inside fits =
-    let low : operand_of (instruction 6 base) ≡ base = operand_of-word 6 base below in
+    let low : operand_of (instruction 6 base) ≡ base = low-of 6 base below in
     let is_inside : nat_lt (base + place) (length m.cells) ≡ true = lt-ltb _ _ fits in
     row-tick m 6 base below ready ∙ rw (next, top, inside, low, is_inside) refl
 
@@ -130,21 +134,21 @@ binary-read op = grind arith
 pub unary-tick : (m : State) (op : Unary) (v : ℤ) (stack : List ℤ) → m.stack ≡ v ∷ stack → Ready m (instruction 7 (unary_code op))
     → ticked m ≡ (Quiet, put m (unary_value op v ∷ stack) (m.pc + 1))
 unary-tick m op v stack top ready =
-    let low : operand_of (instruction 7 (unary_code op)) ≡ unary_code op = operand_of-word 7 (unary_code op) (unary-low op) in
+    let low : operand_of (instruction 7 (unary_code op)) ≡ unary_code op = low-of 7 (unary_code op) (unary-low op) in
     let operator : unary_coded (unary_code op) ≡ Some op = unary-read op in
     row-tick m 7 (unary_code op) (unary-low op) ready ∙ rw (low, operator, top) refl
 
 pub binary-tick : (m : State) (op : Binary) (l r v : ℤ) (stack : List ℤ) → m.stack ≡ r ∷ l ∷ stack → Ready m (instruction 8 (binary_code op)) → binary_value op l r ≡ Some v
     → ticked m ≡ (Quiet, put m (v ∷ stack) (m.pc + 1))
 binary-tick m op l r v stack top ready value =
-    let low : operand_of (instruction 8 (binary_code op)) ≡ binary_code op = operand_of-word 8 (binary_code op) (binary-low op) in
+    let low : operand_of (instruction 8 (binary_code op)) ≡ binary_code op = low-of 8 (binary_code op) (binary-low op) in
     let operator : binary_coded (binary_code op) ≡ Some op = binary-read op in
     row-tick m 8 (binary_code op) (binary-low op) ready ∙ rw (low, operator, top, value) refl
 
 pub divide-tick : (m : State) (op : Binary) (l r : ℤ) (stack : List ℤ) → m.stack ≡ r ∷ l ∷ stack → Ready m (instruction 8 (binary_code op)) → binary_value op l r ≡ None
     → ticked m ≡ (Sent (Division m.pc), halted m)
 divide-tick m op l r stack top ready value =
-    let low : operand_of (instruction 8 (binary_code op)) ≡ binary_code op = operand_of-word 8 (binary_code op) (binary-low op) in
+    let low : operand_of (instruction 8 (binary_code op)) ≡ binary_code op = low-of 8 (binary_code op) (binary-low op) in
     let operator : binary_coded (binary_code op) ≡ Some op = binary-read op in
     row-tick m 8 (binary_code op) (binary-low op) ready ∙ rw (low, operator, top, value) refl
 
@@ -152,7 +156,7 @@ pub emit-tick : (m : State) (event start count : ℕ) → event < 4096 → Ready
     → start + count ≤ length m.cells → count ≤ 256
     → ticked m ≡ (Sent (Emit event start count), put m m.stack (m.pc + 3))
 emit-tick m event start count below ready first second fits few =
-    let low : operand_of (instruction 11 event) ≡ event = operand_of-word 11 event below in
+    let low : operand_of (instruction 11 event) ≡ event = low-of 11 event below in
     let inside : nat_le (start + count) (length m.cells) ≡ true = le-leb _ _ fits in
     let short : nat_le count 256 ≡ true = le-leb _ _ few in
     row-tick m 11 event below ready ∙ rw (first, second, inside, short, low) refl

@@ -16,7 +16,8 @@ use Rattle.aseba_vm.specs.State.{State}
 use Rattle.aseba_vm.specs.Instructions.{was_true}
 use Rattle.aseba_vm.specs.Tick.{ticked}
 use Rattle.aseba_codegen.specs.Table.{Layout, Run, all_acting, ticking, all_ticking, beginning, started, table_beats}
-use Rattle.aseba_codegen.specs.Words.{Coded, core_code, code_words, code_lines}
+use Rattle.aseba_codegen.specs.declared.coded.Coded.{Coded}
+use Rattle.aseba_codegen.specs.Words.{core_code, code_words, code_lines}
 use Rattle.aseba_codegen.specs.CoreRun.{CoreRun, core_run_of, CorePaced}
 
 -- What is asked of projects and cores

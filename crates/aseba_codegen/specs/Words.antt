@@ -1,27 +1,22 @@
 -- The plain code of a core: its words, each with the line of the effect that is next from there.
-use Rattle.std.specs.Prelude.{ℕ, suc, ◌+◌, ◌-◌, ◌*◌, Bool, true, false, not, ◌||◌, if◌then◌else◌, ℤ, pos, negsuc, neg_ℤ, ◌-ℤ◌, int_lt, List, [], ◌∷◌, ◌++◌, length, map, take, drop, sum_by, filter, flat_map, is_some, Option, Some, None, slice_index}
+use Rattle.std.specs.Prelude.{ℕ, suc, ◌+◌, ◌-◌, ◌*◌, ◌%◌, Bool, true, false, not, ◌||◌, if◌then◌else◌, ℤ, pos, negsuc, neg_ℤ, ◌-ℤ◌, int_lt, List, [], ◌∷◌, ◌++◌, length, map, take, drop, sum_by, filter, flat_map, is_some, Option, Some, None, slice_index}
 use Rattle.std.specs.Int.{cast_unsigned, w16}
 use Rattle.aseba_words.specs.Codes.{unary_code, binary_code}
 use Rattle.aseba_words.specs.declared.operators.Binary.TheVariants.{Differ}
 use Rattle.aseba_tree.specs.Code.{Project}
+use Rattle.aseba_codegen.specs.declared.coded.Coded.{Coded}
 use Rattle.aseba_tree.specs.Core.{CoreExpr, fixed, cell, indirect, prefix, infix_of, CoreTarget, into, into_index, CoreStmt, core_stmt, CoreForm, store, branch, on_edge, loop, send, enter, use_native, go_back, CoreStmts, no_core, core_stmts, CorePart, Core}
 use Rattle.aseba_tree.specs.Sizes.{is_of_one_cell}
 use Rattle.aseba_tree.specs.Numbers.{is_large, jump_words}
 use Rattle.aseba_tree.specs.CoreNumbers.{param_count, is_handler, core_list_words, core_part_words, core_table_words, core_starts_from}
 
--- A word, with the line of the effect that is next from there, and whether it is the branch of a `when`, whose bit 9 changes as it runs.
-pub record Coded : Type 0 where
-  pub word : ℕ
-  pub line : ℕ
-  pub is_edge : Bool
-
 -- words of one line that stay as they are
 abbrev pub on_line : ℕ → List ℕ → List Coded
 on_line line words = map (λ word. record { word = word; line = line; is_edge = false }) words
 
--- the instruction of a number, which are its high four bits, with its low twelve bits
+-- the instruction of a number, which are its high four bits, with these low twelve bits
 abbrev pub instruction : ℕ → ℕ → ℕ
-instruction number low = number * 4096 + low
+instruction number low = number * 4096 + low % 4096
 
 -- a number from -2048 to 2047 in twelve bits
 abbrev pub twelve_bits : ℤ → ℕ

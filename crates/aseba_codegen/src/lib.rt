@@ -7,6 +7,10 @@ ghost use Rattle.aseba_codegen.specs.Agrees.{StraightCodeRuns};
 ghost use Rattle.aseba_codegen.specs.Beats.{BeatsAreTicks, TrueBeatsAreEffects};
 ghost use Rattle.aseba_codegen.specs.Worked.{ForLoop, KillInExpression, SubCall, WhenEdge};
 
+mod coded;
+
+pub use coded::Coded;
+
 /// A run has a beat for each tick.
 pub fn beats_are_ticks()
     ensures { BeatsAreTicks }
