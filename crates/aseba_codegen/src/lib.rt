@@ -8,6 +8,7 @@ ghost use Rattle.aseba_codegen.specs.Beats.{BeatsAreTicks, TrueBeatsAreEffects};
 ghost use Rattle.aseba_codegen.specs.Worked.{ForLoop, KillInExpression, SubCall, WhenEdge};
 
 mod coded;
+mod words;
 
 pub use coded::Coded;
 

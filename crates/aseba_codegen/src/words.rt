@@ -1,0 +1,154 @@
+ghost use Rattle.std.specs.Prelude.{◌≡◌, ◌<◌, ◌||◌, not, false, int_lt, negsuc, pos, flat_map, [], ◌∷◌, ◌++◌, IfOk, OnOk};
+ghost use Rattle.aseba_codegen.specs.Words.{instruction, twelve_bits, number_code, large_number_code, expr_code, condition_code, store_code, differs_from_zero};
+ghost use Rattle.aseba_tree.specs.Sizes.{is_of_one_cell};
+ghost use Rattle.aseba_tree.specs.View.{core_expr_view, core_target_view};
+
+use aseba_tree::{CoreExpr, CoreTarget};
+use aseba_words::{Binary, List, Mem};
+
+/// Adds an element at the end.
+pub fn add<T: Drop>(list: &mut List<T>, value: T) -> Result<(), Mem>
+    ensures { OnOk result (list.new ≡ list.old ++ value ∷ []) }
+{
+    match list.push(value) {
+        Ok(()) => Ok(()),
+        Err(_) => Err(Mem),
+    }
+}
+
+/// The word of an instruction, whose high four bits are its number.
+pub fn word_of(number: u16, low: u16) -> u16
+    requires { number < 16 }
+    ensures { result ≡ instruction number low }
+{
+    number * 4096 + low % 4096
+}
+
+/// Adds the code that pushes a number from a word of its own.
+pub fn add_large(words: &mut List<u16>, bits: u16) -> Result<(), Mem>
+    ensures { OnOk result (words.new ≡ words.old ++ instruction 2 0 ∷ bits ∷ []) }
+{
+    add(words, word_of(2, 0))?;
+    add(words, bits)
+}
+
+/// Whether a number fits the low bits of a word.
+fn is_small(value: i16) -> bool
+    ensures { result ≡ not (int_lt value (negsuc 2047) || int_lt (pos 2047) value) }
+{
+    value >= -2048 && value <= 2047
+}
+
+/// A number from -2048 to 2047 in twelve bits.
+fn in_twelve_bits(value: i16) -> u16
+    requires { (int_lt value (negsuc 2047) || int_lt (pos 2047) value) ≡ false }
+    ensures { result ≡ twelve_bits value }
+{
+    if value < 0 {
+        (4096 + value) as u16
+    } else {
+        value as u16
+    }
+}
+
+/// Adds the code that pushes a number.
+pub fn add_number(words: &mut List<u16>, value: i16) -> Result<(), Mem>
+    ensures { OnOk result (words.new ≡ words.old ++ number_code value) }
+{
+    if is_small(value) {
+        add(words, word_of(1, in_twelve_bits(value)))
+    } else {
+        add_large(words, value.cast_unsigned())
+    }
+}
+
+/// Adds the code that pushes an expression's value.
+pub fn add_expr(words: &mut List<u16>, expr: &CoreExpr) -> Result<(), Mem>
+    ensures { OnOk result (words.new ≡ words.old ++ expr_code (core_expr_view expr.now)) }
+{
+    match expr {
+        CoreExpr::Number(value) => add_number(words, *value),
+        CoreExpr::Cell(address) => add(words, word_of(3, *address)),
+        CoreExpr::Indirect(base, size, index) => {
+            add_expr(words, index.get())?;
+            add(words, word_of(5, *base))?;
+            add(words, *size)
+        }
+        CoreExpr::One(op, operand) => {
+            add_expr(words, operand.get())?;
+            add(words, word_of(7, op.code()))
+        }
+        CoreExpr::Two(op, left, right) => {
+            add_expr(words, left.get())?;
+            add_expr(words, right.get())?;
+            add(words, word_of(8, op.code()))
+        }
+    }
+}
+
+/// Whether a branch has the operator itself: a comparison, an `and` or an `or`.
+fn compares(op: Binary) -> bool
+    ensures { result ≡ is_of_one_cell op }
+{
+    match op {
+        Binary::Equal
+        | Binary::Differ
+        | Binary::Above
+        | Binary::AtLeast
+        | Binary::Below
+        | Binary::AtMost
+        | Binary::Or
+        | Binary::And => true,
+        _ => false,
+    }
+}
+
+/// Adds a value and 0, which a branch compares. Answers the branch's operator.
+fn add_value(words: &mut List<u16>, value: &CoreExpr) -> Result<u16, Mem>
+    ensures operator { IfOk result (λ op. op ≡ (differs_from_zero (core_expr_view value.now)).operator) }
+    ensures words { OnOk result (words.new ≡ words.old ++ (differs_from_zero (core_expr_view value.now)).words) }
+{
+    add_expr(words, value)?;
+    add_number(words, 0)?;
+    Ok(Binary::Differ.code())
+}
+
+/// Adds the two values that a branch compares. Answers the branch's operator.
+pub fn add_condition(words: &mut List<u16>, test: &CoreExpr) -> Result<u16, Mem>
+    ensures operator { IfOk result (λ op. op ≡ (condition_code (core_expr_view test.now)).operator) }
+    ensures words { OnOk result (words.new ≡ words.old ++ (condition_code (core_expr_view test.now)).words) }
+{
+    match test {
+        CoreExpr::Two(op, left, right) if compares(*op) => {
+            add_expr(words, left.get())?;
+            add_expr(words, right.get())?;
+            Ok(op.code())
+        }
+        _ => add_value(words, test),
+    }
+}
+
+/// Adds the code of a store.
+pub fn add_store(words: &mut List<u16>, target: &CoreTarget, value: &CoreExpr) -> Result<(), Mem>
+    ensures { OnOk result (words.new ≡ words.old ++ store_code (core_target_view target.now) (core_expr_view value.now)) }
+{
+    add_expr(words, value)?;
+    match target {
+        CoreTarget::Cell(address) => add(words, word_of(4, *address)),
+        CoreTarget::Indirect(base, size, index) => {
+            add_expr(words, index)?;
+            add(words, word_of(6, *base))?;
+            add(words, *size)
+        }
+    }
+}
+
+/// Adds the code that pushes addresses.
+fn add_addresses(words: &mut List<u16>, addresses: &[u16]) -> Result<(), Mem>
+    ensures { OnOk result (words.new ≡ words.old ++ flat_map (λ address. large_number_code (pos address)) addresses.now) }
+{
+    for address in addresses {
+        add_large(words, *address)?;
+    }
+    Ok(())
+}
