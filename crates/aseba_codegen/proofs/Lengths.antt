@@ -10,7 +10,7 @@ use Rattle.aseba_tree.specs.Sizes.{is_of_one_cell}
 use Rattle.aseba_tree.specs.Numbers.{is_large, jump_words, number_words, words, condition_words}
 use Rattle.aseba_tree.specs.CoreNumbers.{param_count, is_handler, store_words, native_words, core_else_words, core_stmt_words, core_form_words, core_list_words, core_part_words, core_table_words, core_words, core_starts_from}
 use Rattle.aseba_codegen.specs.declared.coded.Coded.{Coded}
-use Rattle.aseba_codegen.specs.Words.{Condition, Site, instruction, twelve_bits, large_number_code, number_code, expr_code, differs_from_zero, condition_code, store_code, jump_code, test_code, if_code, native_code, on_line, stmt_code, form_code, list_code, body_code, is_sub, part_code, init_code, init_start, starts_apart, part_starts, handler_entry, handler_entries, table_code, parts_code, core_code}
+use Rattle.aseba_codegen.specs.Words.{Condition, Site, instruction, twelve_bits, sixteen_bits, far_jump, large_number_code, number_code, expr_code, differs_from_zero, condition_code, store_code, jump_code, test_code, if_code, native_code, on_line, stmt_code, form_code, list_code, body_code, is_sub, part_code, init_code, init_start, starts_apart, part_starts, handler_entry, handler_entries, table_code, parts_code, core_code}
 
 pub on_line-long : (line : ℕ) (ws : List ℕ) → length (on_line line ws) ≡ length ws
 on_line-long line [] = refl
@@ -52,11 +52,11 @@ store-long (into_index base size i) e =
     omega (arith, length-append (expr_code e ++ expr_code i) (instruction 6 base ∷ size ∷ []), length-append (expr_code e) (expr_code i), expr-long e, expr-long i)
 
 jump-long : (project : Project) (by : ℤ) → length (jump_code project by) ≡ jump_words project
-jump-long project by = by_test (is_large project) (instruction 1 0 ∷ instruction 1 0 ∷ instruction 10 (binary_code Rattle.aseba_words.specs.declared.operators.Binary.TheVariants.Differ) ∷ Rattle.aseba_codegen.specs.Words.sixteen_bits (by -ℤ pos 2) ∷ []) (instruction 9 (twelve_bits by) ∷ []) refl refl
+jump-long project by = by_test (is_large project)
   where
-    by_test : (b : Bool) (xs ys : List ℕ) → length xs ≡ 4 → length ys ≡ 1 → length (if b then xs else ys) ≡ (if b then 4 else 1)
-    by_test true xs ys h g = h
-    by_test false xs ys h g = g
+    by_test : (b : Bool) → length (if b then far_jump (sixteen_bits (by -ℤ pos 2)) else instruction 9 (twelve_bits by) ∷ []) ≡ (if b then 4 else 1)
+    by_test true = refl
+    by_test false = refl
 
 arguments-long : (xs : List ℕ) → length (flat_map (λ address. large_number_code (pos address)) xs) ≡ 2 * length xs
 arguments-long [] = refl

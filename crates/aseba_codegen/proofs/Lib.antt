@@ -2,6 +2,7 @@ mod Begin
 pub mod BeatLaws
 mod Exprs
 mod Groups
+pub mod Jumps
 mod Lengths
 mod Placing
 mod Reach

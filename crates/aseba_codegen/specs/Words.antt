@@ -64,12 +64,13 @@ abbrev pub store_code : CoreTarget → CoreExpr → List ℕ
 store_code (into address) e = expr_code e ++ instruction 4 address ∷ []
 store_code (into_index base size i) e = expr_code e ++ expr_code i ++ instruction 6 base ∷ size ∷ []
 
--- A jump by a displacement from its first word. In a large project it is a branch that is never taken, and its displacement counts from the
--- branch, two words behind the first.
+-- a branch that is never taken, with the displacement from it
+abbrev pub far_jump : ℕ → List ℕ
+far_jump displacement = instruction 1 0 ∷ instruction 1 0 ∷ instruction 10 (binary_code Differ) ∷ displacement ∷ []
+
+-- A jump by a displacement from its first word. In a large project it is a branch that is never taken, two words behind the first.
 abbrev pub jump_code : Project → ℤ → List ℕ
-jump_code project by =
-    if is_large project then instruction 1 0 ∷ instruction 1 0 ∷ instruction 10 (binary_code Differ) ∷ sixteen_bits (by -ℤ pos 2) ∷ []
-    else instruction 9 (twelve_bits by) ∷ []
+jump_code project by = if is_large project then far_jump (sixteen_bits (by -ℤ pos 2)) else instruction 9 (twelve_bits by) ∷ []
 
 -- the branch word, which in a `when` has bit 8
 abbrev pub branch_word : ℕ → Bool → ℕ

@@ -7,6 +7,7 @@ ghost use Rattle.aseba_codegen.specs.Agrees.{StraightCodeRuns};
 ghost use Rattle.aseba_codegen.specs.Beats.{BeatsAreTicks, TrueBeatsAreEffects};
 ghost use Rattle.aseba_codegen.specs.Worked.{ForLoop, KillInExpression, SubCall, WhenEdge};
 
+mod code;
 mod coded;
 mod words;
 

@@ -1,4 +1,4 @@
-ghost use Rattle.std.specs.Prelude.{◌≡◌, ◌<◌, ◌||◌, not, false, int_lt, negsuc, pos, flat_map, [], ◌∷◌, ◌++◌, IfOk, OnOk};
+ghost use Rattle.std.specs.Prelude.{◌≡◌, ◌<◌, ◌≤◌, All, ◌||◌, not, false, int_lt, negsuc, pos, flat_map, [], ◌∷◌, ◌++◌, IfOk, OnOk};
 ghost use Rattle.aseba_codegen.specs.Words.{instruction, twelve_bits, number_code, large_number_code, expr_code, condition_code, store_code, differs_from_zero};
 ghost use Rattle.aseba_tree.specs.Sizes.{is_of_one_cell};
 ghost use Rattle.aseba_tree.specs.View.{core_expr_view, core_target_view};
@@ -149,6 +149,17 @@ fn add_addresses(words: &mut List<u16>, addresses: &[u16]) -> Result<(), Mem>
 {
     for address in addresses {
         add_large(words, *address)?;
+    }
+    Ok(())
+}
+
+/// Adds the code that pushes lengths.
+fn add_lengths(words: &mut List<u16>, lengths: &[u16]) -> Result<(), Mem>
+    requires { All (λ n. n ≤ 32767) lengths.now }
+    ensures { OnOk result (words.new ≡ words.old ++ flat_map (λ n. number_code (pos n)) lengths.now) }
+{
+    for length in lengths {
+        add_number(words, *length as i16)?;
     }
     Ok(())
 }

@@ -1,0 +1,171 @@
+ghost use Rattle.std.specs.Prelude.{◌≡◌, ◌+◌, ◌-◌, ◌*◌, ◌<◌, ◌≤◌, ℤ, pos, neg_ℤ, negsuc, length, true, false, [], ◌∷◌, ◌++◌, IfOk, OnOk};
+ghost use Rattle.aseba_codegen.specs.Words.{Condition, on_line, far_jump, jump_code, test_code, if_code, when_code, loop_code};
+ghost use Rattle.aseba_tree.specs.Numbers.{is_large, jump_words};
+ghost use Rattle.aseba_tree.specs.View.{project_view, core_stmts_view};
+
+use crate::coded::Coded;
+use crate::words::{add, word_of};
+use aseba_tree::Project;
+use aseba_words::{Binary, List, Mem};
+use std::alloc::Global;
+
+/// Adds words of one line.
+pub fn add_words(code: &mut List<Coded>, line: u32, words: &[u16]) -> Result<(), Mem>
+    ensures { OnOk result (code.new ≡ code.old ++ on_line line words.now) }
+{
+    for word in words {
+        let coded = Coded {
+            word: *word,
+            line,
+            is_edge: false,
+        };
+        add(code, coded)?;
+    }
+    Ok(())
+}
+
+/// Adds code behind code.
+pub fn add_code(code: &mut List<Coded>, more: &[Coded]) -> Result<(), Mem>
+    ensures { OnOk result (code.new ≡ code.old ++ more.now) }
+{
+    for coded in more {
+        add(code, *coded)?;
+    }
+    Ok(())
+}
+
+/// Whether a project's jumps take four words.
+pub fn is_large_project(project: &Project) -> bool
+    ensures { result ≡ is_large (project_view project.now) }
+{
+    project.node.code > 2048
+}
+
+/// How many words a jump takes.
+fn jump_len(project: &Project) -> usize
+    ensures { result ≡ jump_words (project_view project.now) }
+{
+    if is_large_project(project) { 4 } else { 1 }
+}
+
+/// Adds a jump to so many words behind its first.
+fn add_jump(code: &mut List<Coded>, project: &Project, line: u32, by: usize) -> Result<(), Mem>
+    requires { (2 ≤ by) × (by ≤ 32767) }
+    ensures { OnOk result (code.new ≡ code.old ++ on_line line (jump_code (project_view project.now) (pos by))) }
+{
+    if is_large_project(project) {
+        add_far(code, line, (by - 2) as u16)
+    } else {
+        add_words(code, line, &[word_of(9, by as u16)])
+    }
+}
+
+/// Adds a jump to so many words before its first.
+fn add_jump_back(code: &mut List<Coded>, project: &Project, line: u32, by: usize) -> Result<(), Mem>
+    requires { (1 ≤ by) × (by ≤ 32767) }
+    ensures { OnOk result (code.new ≡ code.old ++ on_line line (jump_code (project_view project.now) (neg_ℤ (pos by)))) }
+{
+    if is_large_project(project) {
+        add_far(code, line, (65534 - by) as u16)
+    } else {
+        add_words(
+            code,
+            line,
+            &[word_of(9, 4096_u16.saturating_sub(by as u16))],
+        )
+    }
+}
+
+/// Adds a branch that is never taken, with its displacement.
+fn add_far(code: &mut List<Coded>, line: u32, displacement: u16) -> Result<(), Mem>
+    ensures { OnOk result (code.new ≡ code.old ++ on_line line (far_jump displacement)) }
+{
+    let words = [
+        word_of(1, 0),
+        word_of(1, 0),
+        word_of(10, Binary::Differ.code()),
+        displacement,
+    ];
+    add_words(code, line, &words)
+}
+
+/// Adds a condition with its branch, which goes so many words on where it isn't true.
+fn add_test(
+    code: &mut List<Coded>,
+    line: u32,
+    is_edge: bool,
+    words: &[u16],
+    operator: u16,
+    otherwise: usize,
+) -> Result<(), Mem>
+    requires operator { operator < 256 }
+    requires otherwise { otherwise < 65536 }
+    ensures { OnOk result (code.new ≡ code.old ++ test_code line is_edge (record { words = words.now; operator = operator }) otherwise) }
+{
+    add_words(code, line, words)?;
+    let bit: u16 = if is_edge { 256 } else { 0 };
+    let branch = Coded {
+        word: word_of(10, operator + bit),
+        line,
+        is_edge,
+    };
+    add(code, branch)?;
+    add_words(code, line, &[otherwise as u16])
+}
+
+/// Adds an `if` with the code of its body.
+pub fn add_if(
+    code: &mut List<Coded>,
+    line: u32,
+    words: &[u16],
+    operator: u16,
+    body: &[Coded],
+) -> Result<(), Mem>
+    requires operator { operator < 256 }
+    requires few { length body.now ≤ 32000 }
+    ensures { OnOk result (code.new ≡ code.old ++ (test_code line false (record { words = words.now; operator = operator }) (2 + length body.now) ++ body.now)) }
+{
+    add_test(code, line, false, words, operator, 2 + body.len())?;
+    add_code(code, body)
+}
+
+/// Adds a `when` with the code of its body.
+pub fn add_when(
+    code: &mut List<Coded>,
+    line: u32,
+    words: &[u16],
+    operator: u16,
+    body: &[Coded],
+) -> Result<(), Mem>
+    requires operator { operator < 256 }
+    requires few { length body.now ≤ 32000 }
+    ensures { OnOk result (code.new ≡ code.old ++ when_code line (record { words = words.now; operator = operator }) body.now) }
+{
+    add_test(code, line, true, words, operator, 2 + body.len())?;
+    add_code(code, body)
+}
+
+/// Adds a loop with the code of its body.
+pub fn add_loop(
+    code: &mut List<Coded>,
+    project: &Project,
+    line: u32,
+    words: &[u16],
+    operator: u16,
+    body: &[Coded],
+) -> Result<(), Mem>
+    requires operator { operator < 256 }
+    requires few { length words.now + length body.now ≤ 32000 }
+    ensures { OnOk result (code.new ≡ code.old ++ loop_code (project_view project.now) line (record { words = words.now; operator = operator }) body.now) }
+{
+    add_test(
+        code,
+        line,
+        false,
+        words,
+        operator,
+        2 + body.len() + jump_len(project),
+    )?;
+    add_code(code, body)?;
+    add_jump_back(code, project, line, words.len() + 2 + body.len())
+}
