@@ -1,28 +1,26 @@
 -- The machine at its first tick stands at the core's first state.
-use Rattle.std.proofs.Common.{◌≡◌, ℕ, zero, suc, ◌+◌, ◌-◌, ◌%◌, ◌<◌, ◌≤◌, ◌≢◌, ◌&&◌, ◌||◌, Bool, true, false, if◌then◌else◌, nat_lt, nat_le, nat_eq, ℤ, pos, List, [], ◌∷◌, ◌++◌, length, map, take, drop, replicate, slice_get, slice_index_or, slice_set, Option, Some, None, Result, Ok, Err, refl, sym, ap, ◌∙◌, subst, arith, true≢false, eqb-true, eq-eqb, lt-ltb, ltb-true, le-leb, append-nil, length-append, get_or-set_same, get_or-set_other, length-set}
-use Rattle.std.proofs.lemmas.List.{length-replicate, length-map, map-append, get_or-replicate}
-use Rattle.std.specs.Prelude.{All, find, option_map, unwrap_or, bytes_eq, codes, sum_by, filter}
+use Rattle.std.proofs.Common.{◌≡◌, ℕ, zero, suc, ◌+◌, ◌-◌, ◌%◌, ◌<◌, ◌≤◌, ◌≢◌, ◌||◌, Bool, true, false, if◌then◌else◌, nat_lt, nat_le, nat_eq, ℤ, pos, List, [], ◌∷◌, ◌++◌, length, map, take, drop, replicate, slice_get, slice_index_or, slice_set, Option, Some, None, refl, sym, ap, ◌∙◌, subst, arith, true≢false, eqb-true, eq-eqb, ltb-true, le-leb, get_or-set_same, get_or-set_other, length-set}
+use Rattle.std.proofs.lemmas.List.{length-replicate, length-map, get_or-replicate}
+use Rattle.std.specs.Prelude.{All, find, option_map, bytes_eq, codes}
 use Rattle.std.specs.Int.{cast_signed, w16, int_wrap}
 use Rattle.aseba_words.specs.Cell.{wrapped}
 use Rattle.aseba_tree.specs.Code.{Name, Sized, Project}
-use Rattle.aseba_tree.specs.Layout.{Placed as PlacedVariable, placed_from}
-use Rattle.aseba_tree.specs.Core.{CoreTarget, into, into_index, CoreStmt, core_stmt, CoreForm, store, branch, on_edge, loop, send, enter, use_native, go_back, CoreStmts, no_core, core_stmts, Core}
-use Rattle.aseba_tree.specs.CoreStep.{CoreTask, perform_core, finish_core, CoreState, CoreProgram, core_tasks, core_whens, core_list_whens, whens_before, address_from, address_of, put_into, put_from, core_none_held, core_loaded}
-use Rattle.aseba_tree.specs.CoreNumbers.{core_list_words, core_words, core_depth, core_sub_depth, core_list_depth, core_list_weight, core_weight}
-use Rattle.aseba_tree.specs.CoreShape.{is_readable, is_good_list, IsCore}
+use Rattle.aseba_tree.specs.Layout.{placed_from}
+use Rattle.aseba_tree.specs.Core.{core_stmt, CoreForm, store, branch, on_edge, loop, send, enter, use_native, go_back, CoreStmts, no_core, core_stmts, Core}
+use Rattle.aseba_tree.specs.CoreStep.{finish_core, CoreProgram, core_tasks, core_list_whens, whens_before, address_from, address_of, put_into, put_from, core_loaded}
+use Rattle.aseba_tree.specs.CoreNumbers.{core_sub_depth, core_list_depth, core_list_weight, core_weight}
+use Rattle.aseba_tree.specs.CoreShape.{is_readable, is_good_list}
 use Rattle.aseba_tree.specs.Numbers.{is_large}
-use Rattle.aseba_vm.specs.declared.shape.Shape.{Shape}
 use Rattle.aseba_vm.specs.State.{State, named, none_held}
-use Rattle.aseba_vm.specs.Instructions.{was_true}
 use Rattle.aseba_vm.specs.Lists.{handler_of}
 use Rattle.aseba_vm.specs.Loaded.{made, loaded, reset_state, fresh_cells}
-use Rattle.aseba_codegen.specs.Table.{placed_named, shape_of, started}
+use Rattle.aseba_codegen.specs.Table.{shape_of, started}
 use Rattle.aseba_codegen.specs.declared.coded.Coded.{Coded}
-use Rattle.aseba_codegen.specs.Words.{Site, on_line, instruction, store_code, site_of, form_code, list_code, body_code, init_code, init_start, part_starts, table_code, core_code, code_words}
-use Rattle.aseba_codegen.specs.Agrees.{IsNode, IsStraightCore, truths, is_straight, is_straight_form, list_has_cells, list_is_lined}
-use Rattle.aseba_codegen.proofs.Reach.{Holds, Lined, Stands, stands-split, stands-lined}
+use Rattle.aseba_codegen.specs.Words.{Site, on_line, instruction, store_code, site_of, form_code, list_code, body_code, init_code, init_start, part_starts, table_of, table_code, core_code, code_words}
+use Rattle.aseba_codegen.specs.Agrees.{IsStraightCore, truths, is_straight, is_straight_form, list_has_cells, list_is_lined}
+use Rattle.aseba_codegen.proofs.Reach.{Lined, Stands, stands-split, stands-lined}
 use Rattle.aseba_codegen.proofs.Values.{and-left, and-right}
-use Rattle.aseba_codegen.proofs.Lengths.{list-long, code-long}
+use Rattle.aseba_codegen.proofs.Lengths.{code-long}
 use Rattle.aseba_codegen.proofs.Groups.{Base, Reads, Placed, Working, Aligned, none-at, core_none-at}
 use Rattle.aseba_codegen.proofs.Placing.{stands-at, weight-least, placed-list}
 
@@ -201,7 +199,7 @@ module _ (project : Project) (variables : List Sized) (init : CoreStmts) (cells 
   no_edge : is_straight init ≡ true → NoEdge (core_code project alone)
   no_edge straight =
       let body : NoEdge (init_code project (part_starts project alone) alone) = no_edge-append (list_code site init) (on_line 1 (instruction 0 0 ∷ [])) (no_edge-list site init straight) (no_edge-line 1 (instruction 0 0 ∷ [])) in
-      subst NoEdge (sym code-is) (no_edge-append (table_code project alone) (init_code project (part_starts project alone) alone ++ []) (no_edge-line 0 (3 ∷ 0xffff ∷ init_start project alone ∷ [])) (no_edge-append (init_code project (part_starts project alone) alone) [] body tt))
+      subst NoEdge (sym code-is) (no_edge-append (table_code project alone) (init_code project (part_starts project alone) alone ++ []) (no_edge-line 0 (table_of (init_start project alone) [])) (no_edge-append (init_code project (part_starts project alone) alone) [] body tt))
 
   stands-init : Stands (core_code project alone) 3 (body_code site 1 init)
   stands-init = rw code-is (stands-at (table_code project alone) (init_code project (part_starts project alone) alone) [])
@@ -222,6 +220,9 @@ module _ (project : Project) (variables : List Sized) (init : CoreStmts) (cells 
       subst (λ n. Placed alone_program (core_code project alone) (core_weight alone) project.node.stack (core_tasks 0 init ++ finish_core 1 ∷ []) n [] 0) (sym start-is)
       (placed-list alone_program (core_code project alone) (core_weight alone) site project.node.stack subs (finish_core 1 ∷ []) init 0 3 [] 0 good numbers h.straight lined deep light split.0 (λ none. refl) (λ kept. (last, omega arith)))
 
+  start-small : init_start project alone % 65536 ≡ init_start project alone
+  start-small = let e : init_start project alone ≡ 3 = start-is in omega arith
+
   pub first-words : IsStraightCore project alone → length (code_words project alone) ≤ project.node.code
   first-words h =
       let shape = h.shape in
@@ -230,7 +231,7 @@ module _ (project : Project) (variables : List Sized) (init : CoreStmts) (cells 
       omega (arith, length-map {A = Coded} {B = ℕ} (core_code project alone) (λ c. c.word), code-long project alone)
 
   pub first-state : IsStraightCore project alone → started project (code_words project alone) ≡ first_state project (code_words project alone) (init_start project alone)
-  first-state h = started-is project (code_words project alone) (init_start project alone) (first-words h) refl
+  first-state h = started-is project (code_words project alone) (init_start project alone) (first-words h) (ap Some start-small)
 
   first-base : IsStraightCore project alone → Base alone_program (core_code project alone) (core_weight alone) (first_state project (code_words project alone) (init_start project alone)) (core_loaded alone_program)
   unfolding core_loaded

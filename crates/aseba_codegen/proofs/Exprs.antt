@@ -1,5 +1,5 @@
 -- The code of an expression pushes its value, or stops where the value's definition stops.
-use Rattle.std.proofs.Common.{◌≡◌, ℕ, zero, suc, ◌+◌, ◌<◌, ◌≤◌, ◌⊎◌, inl, inr, ◌||◌, Bool, true, false, if◌then◌else◌, nat_lt, max, ℤ, pos, negsuc, List, [], ◌∷◌, ◌++◌, length, slice_get, slice_index_or, Option, Some, None, Result, Ok, Err, refl, sym, ap, ◌∙◌, subst, arith, length-append, ltb-true, ltb-false}
+use Rattle.std.proofs.Common.{◌≡◌, ℕ, suc, ◌+◌, ◌<◌, ◌≤◌, ◌⊎◌, inl, inr, ◌||◌, Bool, true, false, if◌then◌else◌, nat_lt, ℤ, pos, negsuc, List, [], ◌∷◌, ◌++◌, length, slice_get, slice_index_or, Option, Some, None, Ok, Err, refl, sym, ap, ◌∙◌, subst, arith, length-append, ltb-true}
 use Rattle.std.proofs.lemmas.Option.{slice_get-get_or}
 use Rattle.std.proofs.lemmas.Int.{to_z-of_z}
 use Rattle.std.specs.Prelude.{int_lt, ok_or}
@@ -13,7 +13,6 @@ use Rattle.aseba_tree.specs.Value.{Stop, by_zero, outside, Element, and_then, pl
 use Rattle.aseba_tree.specs.Core.{CoreExpr, fixed, cell, indirect, prefix, infix_of}
 use Rattle.aseba_tree.specs.CoreStep.{core_value}
 use Rattle.aseba_tree.specs.Numbers.{nodes, depth}
-use Rattle.aseba_vm.specs.declared.tick.Tick.{Tick}
 use Rattle.aseba_vm.specs.declared.tick.Tick.TheVariants.{Quiet, Sent}
 use Rattle.aseba_vm.specs.declared.tick.Notice.{Notice}
 use Rattle.aseba_vm.specs.declared.tick.Notice.TheVariants.{Bounds, Division}
@@ -24,7 +23,7 @@ use Rattle.aseba_codegen.specs.declared.coded.Coded.{Coded}
 use Rattle.aseba_codegen.specs.Words.{instruction, twelve_bits, sixteen_bits, large_number_code, expr_code}
 use Rattle.aseba_codegen.specs.Agrees.{line_at}
 use Rattle.aseba_codegen.proofs.TickRows.{put, halted, Ready, small-tick, large-tick, load-tick, load_indirect-tick, load_outside-tick, unary-tick, binary-tick, divide-tick}
-use Rattle.aseba_codegen.proofs.Reach.{Holds, Lined, lined-split, line-of, lined-line, Reaches, reached, one-quiet}
+use Rattle.aseba_codegen.proofs.Reach.{Holds, Lined, lined-split, line-of, lined-line, Reaches, one-quiet}
 
 -- what an expression asks of a number of cells: its numbers are cells, and its cells are there
 abbrev pub Sits : ℕ → CoreExpr → Type 0
@@ -45,6 +44,11 @@ pub record Runs (code : List Coded) (m : State) : Type 0 where
   pub unpaused : m.paused ≡ false
   pub holds : Holds code m.code
   pub many : length m.cells ≤ 4096
+
+-- a cell in sixteen bits
+sixteen-is : (v : ℤ) → FitsSigned w16 v → sixteen_bits v ≡ cast_unsigned w16 v
+sixteen-is (pos n) fits = let low : n < 32768 = fits.sfits in omega arith
+sixteen-is (negsuc n) fits = omega arith
 
 -- an index as a place on both sides
 pub place-cases : (size : ℕ) (v : ℤ)
@@ -81,9 +85,9 @@ module _ (code : List Coded) (cells : ℕ) (G : State → Type 0) where
       let here : line_at code at ≡ line = line-of code at _ lined.0 in
       let behind : end ≡ at + 2 = ends in
       let second : slice_get m.code (at + 1) ≡ Some (sixteen_bits v) = runs.holds (at + 1) _ lined.1.0 refl in
-      let tick : ticked (put m stack at) ≡ (Quiet, put m (cast_signed w16 (cast_unsigned w16 v) ∷ stack) (at + 2)) =
+      let tick : ticked (put m stack at) ≡ (Quiet, put m (cast_signed w16 (sixteen_bits v) ∷ stack) (at + 2)) =
       large-tick (put m stack at) (sixteen_bits v) (ready-at m stack at line _ runs lined.0) second room in
-      let value : cast_signed w16 (cast_unsigned w16 v) ≡ v = to_z-of_z w16 v fits in
+      let value : cast_signed w16 (sixteen_bits v) ≡ v = ap (cast_signed w16) (sixteen-is v fits) ∙ to_z-of_z w16 v fits in
       one-quiet code cells G n b (put m stack at) (v ∷ stack) end ticks
       (subst (λ k. ticked (put m stack at) ≡ (Quiet, put m (v ∷ stack) k)) (sym behind) (subst (λ x. ticked (put m stack at) ≡ (Quiet, put m (x ∷ stack) (at + 2))) value tick))
       (next ∙ sym here) go

@@ -1,31 +1,30 @@
 -- From the code of a work's first task on, up to the first effect: the machine makes the core's step.
-use Rattle.std.proofs.Common.{◌≡◌, ℕ, zero, suc, ◌+◌, ◌-◌, ◌<◌, ◌≤◌, ◌≢◌, ◌⊎◌, inl, inr, ◌&&◌, ◌||◌, not, max, Bool, true, false, if◌then◌else◌, nat_lt, nat_le, is_some, ℤ, pos, negsuc, List, [], ◌∷◌, ◌++◌, length, map, take, drop, slice_get, slice_index_or, slice_set, slice_range, Option, Some, None, unwrap_or, Result, Ok, Err, refl, sym, ap, ◌∙◌, subst, arith, true≢false, ltb-true, lt-ltb, le-ltb, leb-true, leb-false, le-leb, eqb-true, replicate, length-append, length-set, get_or-set_same, get_or-set_other}
+use Rattle.std.proofs.Common.{◌≡◌, ℕ, zero, suc, ◌+◌, ◌-◌, ◌<◌, ◌≤◌, ◌≢◌, inl, inr, ◌&&◌, ◌||◌, max, Bool, true, false, if◌then◌else◌, nat_lt, nat_le, ℤ, pos, List, [], ◌∷◌, ◌++◌, length, map, take, drop, slice_get, slice_index_or, slice_set, slice_range, Option, Some, None, unwrap_or, Result, Ok, Err, refl, sym, ap, ◌∙◌, subst, arith, true≢false, ltb-true, lt-ltb, le-ltb, leb-true, leb-false, eqb-true, replicate, length-append, length-set, get_or-set_same, get_or-set_other}
 use Rattle.std.proofs.lemmas.List.{length-replicate, length-map}
 use Rattle.std.specs.List.{list_all, range_with_len}
-use Rattle.std.specs.Prelude.{option_map, option_to_list, nat_eq}
+use Rattle.std.specs.Prelude.{option_to_list, nat_eq}
 use Rattle.aseba_tree.specs.Code.{Project, Sized}
-use Rattle.aseba_tree.specs.Line.{Event, named, numbered, Report, sent, division, bounds, report_by}
+use Rattle.aseba_tree.specs.Line.{sent, report_by}
 use Rattle.aseba_tree.specs.Value.{Stop, by_zero, outside, Element, and_then, place_among}
 use Rattle.aseba_tree.specs.Step.{applied_cells, stop_report}
-use Rattle.aseba_tree.specs.Core.{CoreExpr, CoreTarget, into, into_index, CoreStmt, core_stmt, CoreForm, store, branch, on_edge, loop, send, enter, use_native, go_back, CoreStmts, no_core, core_stmts, Core}
-use Rattle.aseba_tree.specs.CoreStep.{core_value, target_address, CoreTask, perform_core, leave_core, turn_core, back_core, finish_core, CoreState, CoreProgram, CoreStepped, core_ended, core_stored, core_storing, core_stopped, core_none_held, event_numbered, core_done, temporary, with_temporary, core_task_done, core_first_done, core_work_line}
-use Rattle.aseba_tree.specs.CoreNumbers.{store_depth, core_form_depth, core_sub_depth, kept_nodes, target_nodes, own_nodes}
+use Rattle.aseba_tree.specs.Core.{CoreExpr, CoreTarget, into, into_index, core_stmt, CoreForm, store, branch, on_edge, loop, send, enter, use_native, go_back}
+use Rattle.aseba_tree.specs.CoreStep.{core_value, target_address, CoreTask, perform_core, leave_core, turn_core, back_core, finish_core, CoreState, CoreProgram, CoreStepped, core_ended, core_stored, core_storing, core_stopped, core_none_held, event_numbered, with_temporary, core_task_done, core_first_done, core_work_line}
+use Rattle.aseba_tree.specs.CoreNumbers.{core_form_depth, kept_nodes, own_nodes}
 use Rattle.aseba_tree.specs.CoreShape.{is_readable, is_readable_range, is_indexed, is_good_expr, is_good_target, is_good_form, kept_at, stands_in}
 use Rattle.aseba_tree.specs.Numbers.{nodes, depth}
 use Rattle.aseba_vm.specs.declared.tick.Tick.{Tick}
-use Rattle.aseba_vm.specs.declared.tick.Tick.TheVariants.{Quiet, Stored, Effect, Sent}
-use Rattle.aseba_vm.specs.declared.tick.Notice.{Notice}
-use Rattle.aseba_vm.specs.declared.tick.Notice.TheVariants.{Emit, Bounds, Division}
-use Rattle.aseba_vm.specs.State.{State, applied, ended, none_held}
+use Rattle.aseba_vm.specs.declared.tick.Tick.TheVariants.{Stored, Effect, Sent}
+use Rattle.aseba_vm.specs.declared.tick.Notice.TheVariants.{Emit, Bounds}
+use Rattle.aseba_vm.specs.State.{State, applied, ended}
 use Rattle.aseba_vm.specs.Tick.{ticked}
 use Rattle.aseba_codegen.specs.Table.{is_effect, tick_reports, event_of}
 use Rattle.aseba_codegen.specs.declared.coded.Coded.{Coded}
-use Rattle.aseba_codegen.specs.Words.{Site, instruction, expr_code, store_code, form_code}
+use Rattle.aseba_codegen.specs.Words.{instruction, expr_code, store_code}
 use Rattle.aseba_codegen.specs.Agrees.{line_at, truths, is_error, form_has_cells, target_has_cells, has_cells, is_straight_form}
 use Rattle.aseba_codegen.proofs.TickRows.{put, halted, stored, Ready, store-tick, store_indirect-tick, store_outside-tick, emit-tick, end-tick}
-use Rattle.aseba_codegen.proofs.Reach.{Holds, Lined, lined-split, lined-line, line-of, Same, Hidden, Reaches, reached, one-quiet}
+use Rattle.aseba_codegen.proofs.Reach.{Holds, Lined, lined-split, lined-line, line-of, Same, Hidden, Reaches, reached}
 use Rattle.aseba_codegen.proofs.Exprs.{Sits, notice_of, Runs, Goes, expr-run, place-cases}
-use Rattle.aseba_codegen.proofs.Values.{and-left, and-right, Alike, readable-below, readable-inside, value-alike, sits, range-alike}
+use Rattle.aseba_codegen.proofs.Values.{and-left, and-right, Alike, value-alike, sits, range-alike}
 
 -- Lists
 

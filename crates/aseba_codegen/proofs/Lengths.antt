@@ -1,16 +1,16 @@
 -- The code of a core has as many words as its numbers say.
-use Rattle.std.proofs.Common.{◌≡◌, ℕ, zero, suc, ◌+◌, ◌*◌, ◌||◌, not, Bool, true, false, if◌then◌else◌, ℤ, pos, negsuc, ◌-ℤ◌, neg_ℤ, List, [], ◌∷◌, ◌++◌, length, map, take, drop, Option, Some, None, is_some, refl, sym, ap, ◌∙◌, subst, arith, length-append, append-nil}
-use Rattle.std.proofs.lemmas.List.{length-map}
+use Rattle.std.proofs.Common.{◌≡◌, ℕ, suc, ◌+◌, ◌*◌, ◌≤◌, ◌||◌, not, Bool, true, false, if◌then◌else◌, ℤ, pos, negsuc, ◌-ℤ◌, neg_ℤ, List, [], ◌∷◌, ◌++◌, length, take, drop, Option, Some, None, is_some, refl, ap, ◌∙◌, arith, length-append}
 use Rattle.std.proofs.lemmas.List.Sums.{sum_by-cons}
-use Rattle.std.specs.Prelude.{int_lt, sum_by, filter, flat_map}
+use Rattle.std.specs.Prelude.{int_lt, sum_by, filter, flat_map, slice_index}
 use Rattle.aseba_words.specs.Codes.{unary_code, binary_code}
 use Rattle.aseba_tree.specs.Code.{Project}
 use Rattle.aseba_tree.specs.Core.{CoreExpr, fixed, cell, indirect, prefix, infix_of, CoreTarget, into, into_index, CoreStmt, core_stmt, CoreForm, store, branch, on_edge, loop, send, enter, use_native, go_back, CoreStmts, no_core, core_stmts, CorePart, Core}
+use Rattle.aseba_tree.specs.CoreShape.{is_last}
 use Rattle.aseba_tree.specs.Sizes.{is_of_one_cell}
 use Rattle.aseba_tree.specs.Numbers.{is_large, jump_words, number_words, words, condition_words}
 use Rattle.aseba_tree.specs.CoreNumbers.{param_count, is_handler, store_words, native_words, core_else_words, core_stmt_words, core_form_words, core_list_words, core_part_words, core_table_words, core_words, core_starts_from}
 use Rattle.aseba_codegen.specs.declared.coded.Coded.{Coded}
-use Rattle.aseba_codegen.specs.Words.{Condition, Site, instruction, twelve_bits, sixteen_bits, far_jump, large_number_code, number_code, expr_code, differs_from_zero, condition_code, store_code, jump_code, test_code, if_code, native_code, on_line, stmt_code, form_code, list_code, body_code, is_sub, part_code, init_code, init_start, starts_apart, part_starts, handler_entry, handler_entries, table_code, parts_code, core_code}
+use Rattle.aseba_codegen.specs.Words.{Condition, Site, instruction, twelve_bits, sixteen_bits, far_jump, large_number_code, number_code, expr_code, differs_from_zero, condition_code, store_code, jump_code, test_code, if_code, native_code, on_line, stmt_code, form_code, list_code, body_code, is_sub, part_code, init_code, init_start, starts_apart, part_starts, handler_entry, handler_entries, table_of, table_code, parts_code, core_code}
 
 pub on_line-long : (line : ℕ) (ws : List ℕ) → length (on_line line ws) ≡ length ws
 on_line-long line [] = refl
@@ -83,10 +83,10 @@ tested-long line is_edge c otherwise body =
 jumping-long : (project : Project) (line : ℕ) (by : ℤ) → length (on_line line (jump_code project by)) ≡ jump_words project
 jumping-long project line by = on_line-long line (jump_code project by) ∙ jump-long project by
 
-if-long : (project : Project) (line : ℕ) (c : CoreExpr) (body : List Coded) (ss : CoreStmts) (other : List Coded) (n : ℕ) → length other ≡ n → (ss ≡ no_core → other ≡ [])
-    → length (if_code project line (condition_code c) body ss other) ≡ condition_words c + 2 + length body + core_else_words project ss n
-if-long project line c body no_core other n e none = tested-long line false c (2 + length body) body ∙ omega arith
-if-long project line c body (core_stmts s ss) other n e none =
+if-long : (project : Project) (line : ℕ) (c : CoreExpr) (body : List Coded) (ss : CoreStmts) (other : List Coded) (n : ℕ) → length other ≡ n
+    → length (if_code project line (condition_code c) body (not (is_last ss)) other) ≡ condition_words c + 2 + length body + core_else_words project ss n
+if-long project line c body no_core other n e = tested-long line false c (2 + length body) body ∙ omega arith
+if-long project line c body (core_stmts s ss) other n e =
     let front : List Coded = test_code line false (condition_code c) (2 + length body + jump_words project) ++ body in
     let jump : List Coded = on_line line (jump_code project (pos (jump_words project + length other))) in
     omega (arith, tested-long line false c (2 + length body + jump_words project) body, length-append (front ++ jump) other, length-append front jump, jumping-long project line (pos (jump_words project + length other)), e)
@@ -98,7 +98,7 @@ mutual
   pub form-long : (site : Site) (line : ℕ) (form : CoreForm) → length (form_code site line form) ≡ core_form_words site.project form
   form-long site line (store t e) = on_line-long line (store_code t e) ∙ store-long t e
   form-long site line (branch c body other) =
-      omega (arith, if-long site.project line c (list_code site body) other (list_code site other) (core_list_words site.project other) (list-long site other) (λ none. rw none refl), list-long site body)
+      omega (arith, if-long site.project line c (list_code site body) other (list_code site other) (core_list_words site.project other) (list-long site other), list-long site body)
   form-long site line (on_edge c body) = omega (arith, tested-long line true c (2 + length (list_code site body)) (list_code site body), list-long site body)
   form-long site line (loop c body) =
       let front : List Coded = test_code line false (condition_code c) (2 + length (list_code site body) + jump_words site.project) ++ list_code site body in
@@ -152,21 +152,21 @@ starts-long project core = by_test (is_large project)
     by_test true = apart-long project (core_table_words core) (init_start project core + core_list_words project core.init + 1) core.parts
     by_test false = starts_from-long project (init_start project core + core_list_words project core.init + 1) core.parts
 
-entries-long : (parts : List CorePart) (starts : List ℕ) → length starts ≡ length parts → length (handler_entries parts starts) ≡ 2 * length (filter is_handler parts)
-entries-long [] starts e = refl
-entries-long (part ∷ parts) [] e = absurd (omega arith)
-entries-long (part ∷ parts) (start ∷ starts) e = by_event part.event (entries-long parts starts (omega arith))
+entries-long : (starts : List ℕ) (which : ℕ) (parts : List CorePart) → length (handler_entries starts which parts) ≡ 2 * length (filter is_handler parts)
+entries-long starts which [] = refl
+entries-long starts which (part ∷ parts) = by_event part.event (slice_index starts which) (entries-long starts (which + 1) parts)
   where
-    by_event : (event : Option ℕ) → length (handler_entries parts starts) ≡ 2 * length (filter is_handler parts)
-        → length (handler_entry event start ++ handler_entries parts starts) ≡ 2 * length (if is_some event then part ∷ filter is_handler parts else filter is_handler parts)
-    by_event None ih = ih
-    by_event (Some event) ih = omega arith
+    by_event : (event : Option ℕ) (start : ℕ) → length (handler_entries starts (which + 1) parts) ≡ 2 * length (filter is_handler parts)
+        → length (handler_entry event start ++ handler_entries starts (which + 1) parts) ≡ 2 * length (if is_some event then part ∷ filter is_handler parts else filter is_handler parts)
+    by_event None start ih = ih
+    by_event (Some event) start ih = omega arith
 
 pub table-long : (project : Project) (core : Core) → length (table_code project core) ≡ core_table_words core
 table-long project core =
-    omega (arith, on_line-long 0 (core_table_words core ∷ 0xffff ∷ init_start project core ∷ handler_entries core.parts (part_starts project core)), entries-long core.parts (part_starts project core) (starts-long project core))
+    let entries : List ℕ = handler_entries (part_starts project core) 0 core.parts in
+    omega (arith, on_line-long 0 (table_of (init_start project core) entries), entries-long (part_starts project core) 0 core.parts)
 
-apart-sum : (f : CorePart → ℕ) (parts : List CorePart) → sum_by f (filter is_sub parts) + sum_by f (filter is_handler parts) ≡ sum_by f parts
+pub apart-sum : (f : CorePart → ℕ) (parts : List CorePart) → sum_by f (filter is_sub parts) + sum_by f (filter is_handler parts) ≡ sum_by f parts
 apart-sum f [] = refl
 apart-sum f (part ∷ parts) = by_test (is_handler part) (apart-sum f parts)
   where
@@ -174,6 +174,14 @@ apart-sum f (part ∷ parts) = by_test (is_handler part) (apart-sum f parts)
         → sum_by f (if not b then part ∷ filter is_sub parts else filter is_sub parts) + sum_by f (if b then part ∷ filter is_handler parts else filter is_handler parts) ≡ sum_by f (part ∷ parts)
     by_test true ih = omega (arith, sum_by-cons f part (filter is_handler parts), sum_by-cons f part parts)
     by_test false ih = omega (arith, sum_by-cons f part (filter is_sub parts), sum_by-cons f part parts)
+
+-- the code behind the init code begins inside the code
+pub starts-few : (project : Project) (core : Core) (most : ℕ) → core_words project core ≤ most → init_start project core + core_list_words project core.init + 1 ≤ most
+starts-few project core most h = by_test (is_large project)
+  where
+    by_test : (b : Bool) → core_table_words core + (if b then sum_by (core_part_words project) (filter is_sub core.parts) else 0) + core_list_words project core.init + 1 ≤ most
+    by_test true = omega (arith, h, apart-sum (core_part_words project) core.parts)
+    by_test false = omega (arith, h)
 
 -- the whole code
 pub code-long : (project : Project) (core : Core) → length (core_code project core) ≡ core_words project core
@@ -192,3 +200,5 @@ code-long project core =
     either : (b : Bool) (xs ys : List Coded) (n : ℕ) → length xs ≡ n → length ys ≡ n → length (if b then xs else ys) ≡ n
     either true xs ys n h g = h
     either false xs ys n h g = g
+
+pub ruleset lengths = (list-long, condition-long, expr-long)

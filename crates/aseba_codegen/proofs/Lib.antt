@@ -1,9 +1,10 @@
 mod Begin
 pub mod BeatLaws
 mod Exprs
+pub mod FormAnswers
 mod Groups
 pub mod Jumps
-mod Lengths
+pub mod Lengths
 mod Placing
 mod Reach
 pub mod Rows

@@ -1,16 +1,16 @@
 -- Ticks that have no effect: where words stand, and what is reached behind such ticks.
-use Rattle.std.proofs.Common.{◌≡◌, ℕ, zero, suc, ◌+◌, ◌<◌, ◌≤◌, ◌⊎◌, inl, inr, Bool, true, false, nat_lt, ℤ, pos, List, [], ◌∷◌, ◌++◌, length, map, slice_get, slice_index_or, Option, Some, None, refl, sym, ap, ◌∙◌, subst, arith}
+use Rattle.std.proofs.Common.{◌≡◌, ℕ, zero, suc, ◌+◌, ◌<◌, ◌⊎◌, inl, inr, false, ℤ, pos, List, [], ◌∷◌, ◌++◌, length, map, slice_get, slice_index_or, Some, refl, sym, ap, ◌∙◌, subst, arith}
 use Rattle.std.proofs.lemmas.Option.{slice_get-map, get_or_from_slice_get}
 use Rattle.std.specs.Option.{option_map}
 use Rattle.aseba_vm.specs.declared.tick.Tick.{Tick}
-use Rattle.aseba_vm.specs.declared.tick.Tick.TheVariants.{Quiet, Stored}
+use Rattle.aseba_vm.specs.declared.tick.Tick.TheVariants.{Quiet}
 use Rattle.aseba_vm.specs.State.{State}
 use Rattle.aseba_vm.specs.Tick.{ticked}
 use Rattle.aseba_codegen.specs.Table.{is_effect}
 use Rattle.aseba_codegen.specs.declared.coded.Coded.{Coded}
 use Rattle.aseba_codegen.specs.Words.{on_line}
 use Rattle.aseba_codegen.specs.Agrees.{line_at}
-use Rattle.aseba_codegen.proofs.TickRows.{put, Ready}
+use Rattle.aseba_codegen.proofs.TickRows.{put}
 
 -- what a memory with this code has, but for the words that change as they run
 abbrev pub Holds : List Coded → List ℕ → Type 0

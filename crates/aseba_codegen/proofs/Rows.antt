@@ -1,16 +1,12 @@
 -- Worked runs: the words of small programs, computed by the machine's definition to their lines.
-use Rattle.std.specs.Prelude.{◌≡◌, ℕ, List, [], ◌∷◌, pos, codes, refl}
+use Rattle.std.specs.Prelude.{refl}
 use Rattle.std.specs.Int.{int_wrap}
-use Rattle.aseba_tree.specs.Code.{Name, Sized, Project}
-use Rattle.aseba_tree.specs.Line.{Line, Event, named, began, killed, sent, told, var, end}
-use Rattle.aseba_tree.specs.Script.{Entry, arrives}
-use Rattle.aseba_tree.specs.Layout.{placed_from}
 use Rattle.aseba_vm.specs.Tick.{ticked}
 use Rattle.aseba_vm.specs.Arrival.{arrived}
 use Rattle.aseba_vm.specs.Control.{hold_written}
 use Rattle.aseba_vm.specs.Loaded.{made, loaded, reset_state}
-use Rattle.aseba_codegen.specs.Table.{Layout, started, table_lines}
-use Rattle.aseba_codegen.specs.Worked.{small_project, one_variable, event_at, ForLoop, SubCall, WhenEdge, KillInExpression}
+use Rattle.aseba_codegen.specs.Table.{started}
+use Rattle.aseba_codegen.specs.Worked.{ForLoop, SubCall, WhenEdge, KillInExpression}
 
 pub for_loop : ForLoop
 unfolding started ticked arrived hold_written made loaded reset_state int_wrap

@@ -1,29 +1,29 @@
 -- The runs of straight code and of its core, tick by tick.
-use Rattle.std.proofs.Common.{◌≡◌, ℕ, zero, suc, ◌+◌, ◌-◌, ◌<◌, ◌≤◌, ◌⊎◌, inl, inr, ◌&&◌, ◌||◌, not, Bool, true, false, if◌then◌else◌, ℤ, pos, List, [], ◌∷◌, ◌++◌, length, map, take, drop, slice_index_or, Option, Some, None, refl, sym, ap, ◌∙◌, subst, arith, true≢false, append-nil, ext_get_or, get_or-take, length-take-le}
+use Rattle.std.proofs.Common.{◌≡◌, ℕ, zero, suc, ◌+◌, ◌-◌, ◌<◌, ◌≤◌, ◌⊎◌, inl, inr, ◌||◌, not, Bool, true, false, if◌then◌else◌, ℤ, pos, List, [], ◌∷◌, ◌++◌, length, map, take, drop, slice_index_or, None, refl, sym, ap, ◌∙◌, subst, arith, true≢false, append-nil, ext_get_or, get_or-take, length-take-le}
 use Rattle.std.proofs.lemmas.List.{map-append}
 use Rattle.std.specs.List.{list_all, list_any}
 use Rattle.std.specs.Prelude.{option_to_list}
 use Rattle.aseba_tree.specs.Code.{Project, Sized}
-use Rattle.aseba_tree.specs.Line.{Report, report_by, Line, told, line_by}
+use Rattle.aseba_tree.specs.Line.{Report, report_by, told, line_by}
 use Rattle.aseba_tree.specs.Core.{CoreStmts, CorePart, Core}
-use Rattle.aseba_tree.specs.CoreNumbers.{core_weight, core_list_weight}
+use Rattle.aseba_tree.specs.CoreNumbers.{core_weight}
 use Rattle.aseba_tree.specs.CoreStep.{CoreProgram, CoreState, CoreStepped, core_is_running, core_first_done, core_step, core_loaded, core_next_line}
 use Rattle.aseba_vm.specs.declared.tick.Tick.{Tick}
 use Rattle.aseba_vm.specs.declared.tick.Tick.TheVariants.{Idle, Paused, Quiet, Stored, Effect, Sent}
 use Rattle.aseba_vm.specs.State.{State}
 use Rattle.aseba_vm.specs.Tick.{ticked}
 use Rattle.aseba_vm.proofs.Ticks.{ticked-idle}
-use Rattle.aseba_codegen.specs.Table.{Layout, Run, is_effect, tick_reports, stepping, ticking, all_ticking, beginning, started, beats_from, table_beats}
+use Rattle.aseba_codegen.specs.Table.{Layout, Run, is_effect, tick_reports, ticking, all_ticking, beginning, started, beats_from, table_beats}
 use Rattle.aseba_codegen.specs.declared.coded.Coded.{Coded}
 use Rattle.aseba_codegen.specs.Words.{core_code, code_words}
-use Rattle.aseba_codegen.specs.CoreRun.{CoreRun, core_telling, core_stepping, core_ticking, core_all_ticking, core_begin_of, core_run_of, CoreMoment, core_moment, core_moments_from, core_moments, is_one_core_handler, CorePaced}
+use Rattle.aseba_codegen.specs.CoreRun.{CoreRun, core_ticking, core_all_ticking, core_begin_of, CoreMoment, core_moments_from, is_one_core_handler}
 use Rattle.aseba_codegen.specs.Agrees.{IsStraightCore, IsNode, line_at, is_error, errors_from, Seen, RunsAlike, StraightCodeRuns}
 use Rattle.aseba_codegen.proofs.BeatLaws.{beats_are_ticks}
 use Rattle.aseba_codegen.proofs.TickRows.{put}
 use Rattle.aseba_codegen.proofs.Reach.{Same, Hidden, Reaches}
 use Rattle.aseba_codegen.proofs.Values.{and-left, and-right, and-both}
 use Rattle.aseba_codegen.proofs.Placing.{weight-least}
-use Rattle.aseba_codegen.proofs.Groups.{Base, Reads, Placed, Working, Aligned, Lands, Going, placed-line, group-run}
+use Rattle.aseba_codegen.proofs.Groups.{Base, Working, Aligned, Lands, Going, placed-line, group-run}
 use Rattle.aseba_codegen.proofs.Begin.{alone, alone_program, first-aligned}
 
 -- a tick without an effect tells nothing

@@ -1,19 +1,18 @@
 -- One tick of each instruction that code has, where it finds what it needs.
-use Rattle.std.proofs.Common.{◌≡◌, ℕ, zero, suc, ◌+◌, ◌-◌, ◌*◌, ◌%◌, ◌<◌, ◌≤◌, ◌&&◌, ◌||◌, Bool, true, false, if◌then◌else◌, nat_lt, nat_le, ℤ, pos, negsuc, ◌-ℤ◌, List, [], ◌∷◌, length, slice_get, slice_set, slice_index_or, Option, Some, None, refl, sym, ap, ◌∙◌, subst, lt-ltb, le-leb, ltb-false, arith}
+use Rattle.std.proofs.Common.{◌≡◌, ℕ, ◌+◌, ◌%◌, ◌<◌, ◌≤◌, ◌||◌, true, false, if◌then◌else◌, nat_lt, nat_le, ℤ, pos, negsuc, ◌-ℤ◌, List, ◌∷◌, length, slice_get, slice_set, slice_index_or, Some, None, refl, ap, ◌∙◌, lt-ltb, le-leb, ltb-false, arith}
 use Rattle.std.specs.Prelude.{int_lt}
 use Rattle.std.specs.Int.{cast_signed, w16}
 use Rattle.aseba_words.specs.Cell.{unary_value, binary_value}
 use Rattle.aseba_words.specs.Codes.{unary_code, unary_coded, binary_code, binary_coded}
 use Rattle.aseba_words.specs.declared.operators.Unary.{Unary}
 use Rattle.aseba_words.specs.declared.operators.Binary.{Binary}
-use Rattle.aseba_vm.specs.declared.tick.Tick.{Tick}
 use Rattle.aseba_vm.specs.declared.tick.Tick.TheVariants.{Quiet, Stored, Effect, Sent}
 use Rattle.aseba_vm.specs.declared.tick.Notice.TheVariants.{Emit, Bounds, Division}
 use Rattle.aseba_vm.specs.State.{State, ended, has_room}
 use Rattle.aseba_vm.specs.declared.opcode.Opcode.TheVariants.{NoInstruction}
 use Rattle.aseba_vm.specs.Instructions.{opcodes, opcode_of, operand_of, signed_operand_of}
 use Rattle.aseba_vm.specs.Outcome.{index_in}
-use Rattle.aseba_vm.specs.Rows.{row, can_emit}
+use Rattle.aseba_vm.specs.Rows.{row}
 use Rattle.aseba_vm.specs.Tick.{ticked, settled}
 use Rattle.aseba_vm.proofs.Ticks.{ticked-row}
 use Rattle.aseba_vm.proofs.Words.{opcode_of-word, operand_of-word}

@@ -1,14 +1,12 @@
 -- Expressions have the same value where they read the same cells.
-use Rattle.std.proofs.Common.{◌≡◌, ℕ, zero, suc, ◌+◌, ◌-◌, ◌<◌, ◌≤◌, ◌⊎◌, inl, inr, ◌&&◌, ◌||◌, Bool, true, false, if◌then◌else◌, nat_lt, nat_le, ℤ, pos, negsuc, List, [], ◌∷◌, length, take, drop, slice_index_or, slice_range, Option, Some, None, Result, Ok, Err, refl, sym, ap, ◌∙◌, subst, arith, true≢false, ltb-true, lt-ltb, leb-true, length-drop, length-take-le, get_or-take, get_or-drop, ext_get_or}
+use Rattle.std.proofs.Common.{◌≡◌, ℕ, zero, suc, ◌+◌, ◌-◌, ◌<◌, ◌≤◌, inl, inr, ◌&&◌, ◌||◌, Bool, true, false, nat_lt, ℤ, pos, negsuc, List, length, take, drop, slice_index_or, slice_range, Ok, Err, refl, sym, ap, ◌∙◌, subst, arith, true≢false, ltb-true, lt-ltb, leb-true, length-drop, length-take-le, get_or-take, get_or-drop, ext_get_or}
 use Rattle.std.specs.List.{list_all, range_with_len}
 use Rattle.std.specs.Int.{w16}
 use Rattle.std.specs.Int.RustNames.{FitsSigned}
-use Rattle.aseba_words.specs.declared.operators.Binary.{Binary}
-use Rattle.aseba_tree.specs.Value.{Stop, outside, Element, and_then, place_among, unary_element, binary_element}
+use Rattle.aseba_tree.specs.Value.{Element, and_then, place_among, unary_element}
 use Rattle.aseba_tree.specs.Core.{CoreExpr, fixed, cell, indirect, prefix, infix_of, CoreTarget, into, into_index, Core}
 use Rattle.aseba_tree.specs.CoreStep.{core_value, target_address}
-use Rattle.aseba_tree.specs.CoreShape.{is_readable, is_readable_range, is_indexed, is_good_expr, is_good_target, stands_in}
-use Rattle.aseba_vm.specs.Outcome.{index_in}
+use Rattle.aseba_tree.specs.CoreShape.{is_readable, is_readable_range, is_indexed, is_good_expr, is_good_target}
 use Rattle.aseba_codegen.specs.Agrees.{is_cell, has_cells}
 use Rattle.aseba_codegen.proofs.Exprs.{Sits, place-cases}
 

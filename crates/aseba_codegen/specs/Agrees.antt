@@ -1,10 +1,10 @@
 -- How a machine that runs the code of a core stands to the core.
-use Rattle.std.specs.Prelude.{◌≡◌, ℕ, zero, suc, ◌+◌, ◌<◌, ◌≤◌, nat_lt, nat_le, nat_eq, Bool, true, false, ◌&&◌, not, if◌then◌else◌, IsTrue, ℤ, pos, negsuc, List, [], ◌∷◌, map, length, take, All, slice_index}
+use Rattle.std.specs.Prelude.{◌≡◌, ℕ, zero, suc, ◌<◌, ◌≤◌, nat_lt, nat_le, nat_eq, Bool, true, false, ◌&&◌, not, if◌then◌else◌, IsTrue, ℤ, pos, negsuc, List, [], ◌∷◌, map, length, take, All, slice_index}
 use Rattle.std.specs.List.{list_all}
 use Rattle.aseba_tree.specs.Code.{Project}
-use Rattle.aseba_tree.specs.Line.{Line, line_by}
+use Rattle.aseba_tree.specs.Line.{line_by}
 use Rattle.aseba_tree.specs.Script.{Script, actions_at}
-use Rattle.aseba_tree.specs.Core.{CoreExpr, fixed, cell, indirect, prefix, infix_of, CoreTarget, into, into_index, CoreStmt, core_stmt, CoreForm, store, branch, on_edge, loop, send, enter, use_native, go_back, CoreStmts, no_core, core_stmts, CorePart, Core}
+use Rattle.aseba_tree.specs.Core.{CoreExpr, fixed, cell, indirect, prefix, infix_of, CoreTarget, into, into_index, CoreStmt, core_stmt, CoreForm, store, branch, on_edge, loop, send, CoreStmts, no_core, core_stmts, Core}
 use Rattle.aseba_tree.specs.CoreNumbers.{core_weight}
 use Rattle.aseba_tree.specs.CoreShape.{IsCore}
 use Rattle.aseba_tree.specs.CoreStep.{CoreProgram, CoreState, core_next_line}
@@ -17,8 +17,8 @@ use Rattle.aseba_vm.specs.Instructions.{was_true}
 use Rattle.aseba_vm.specs.Tick.{ticked}
 use Rattle.aseba_codegen.specs.Table.{Layout, Run, all_acting, ticking, all_ticking, beginning, started, table_beats}
 use Rattle.aseba_codegen.specs.declared.coded.Coded.{Coded}
-use Rattle.aseba_codegen.specs.Words.{core_code, code_words, code_lines}
-use Rattle.aseba_codegen.specs.CoreRun.{CoreRun, core_run_of, CorePaced}
+use Rattle.aseba_codegen.specs.Words.{core_code, code_words}
+use Rattle.aseba_codegen.specs.CoreRun.{core_run_of, CorePaced}
 
 -- What is asked of projects and cores
 

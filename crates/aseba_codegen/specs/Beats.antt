@@ -1,5 +1,5 @@
 -- What the beats of a run say.
-use Rattle.std.specs.Prelude.{◌≡◌, ℕ, Bool, List, length, count_by}
+use Rattle.std.specs.Prelude.{◌≡◌, ℕ, List, length, count_by}
 use Rattle.aseba_tree.specs.Code.{Project}
 use Rattle.aseba_tree.specs.Script.{Script}
 use Rattle.aseba_codegen.specs.Table.{Layout, all_ticking, beginning, started, table_beats}

@@ -1,5 +1,5 @@
 -- The runs of a core with a script, where a list of truths says at which ticks a step is done. They are those of a source, with a core in its place.
-use Rattle.std.specs.Prelude.{ℕ, suc, ◌+◌, ◌≤◌, Bool, true, false, not, ◌&&◌, ◌||◌, if◌then◌else◌, IsTrue, List, [], ◌∷◌, ◌++◌, map, length, take, drop, option_to_list}
+use Rattle.std.specs.Prelude.{ℕ, suc, ◌+◌, ◌≤◌, Bool, not, ◌&&◌, ◌||◌, if◌then◌else◌, IsTrue, List, [], ◌∷◌, ◌++◌, map, length, take, drop, option_to_list}
 use Rattle.std.specs.List.{list_all, list_any}
 use Rattle.aseba_tree.specs.Line.{Report, was_set, Line, told}
 use Rattle.aseba_tree.specs.Lines.{is_beginning}

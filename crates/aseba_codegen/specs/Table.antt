@@ -1,5 +1,5 @@
 -- The lines of a run of words by the machine alone. Where a source has the line of an effect, the machine has its counter.
-use Rattle.std.specs.Prelude.{ℕ, zero, suc, ◌+◌, ◌-◌, ◌≤◌, Bool, true, false, nat_lt, if◌then◌else◌, List, [], ◌∷◌, ◌++◌, length, map, filter_map, take, drop, slice_get, bytes_eq, find, position, sum_by, Option, None, Some, option_map, option_and_then, unwrap_or, ℤ, codes}
+use Rattle.std.specs.Prelude.{ℕ, zero, suc, ◌+◌, ◌-◌, Bool, true, false, nat_lt, if◌then◌else◌, List, [], ◌∷◌, ◌++◌, map, take, drop, slice_get, bytes_eq, find, position, sum_by, Option, None, Some, option_map, unwrap_or, ℤ, codes}
 use Rattle.aseba_tree.specs.Code.{Name, Sized, Project}
 use Rattle.aseba_tree.specs.Line.{Event, named, numbered, Report, began, ignored, dropped, killed, was_set, sent, division, bounds, Line, told, var, end}
 use Rattle.aseba_tree.specs.Script.{Action, arrives, sets, Script, actions_at}

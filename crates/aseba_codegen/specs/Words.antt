@@ -1,11 +1,11 @@
 -- The plain code of a core: its words, each with the line of the effect that is next from there.
-use Rattle.std.specs.Prelude.{ℕ, suc, ◌+◌, ◌-◌, ◌*◌, ◌%◌, Bool, true, false, not, ◌||◌, if◌then◌else◌, ℤ, pos, negsuc, neg_ℤ, ◌-ℤ◌, int_lt, List, [], ◌∷◌, ◌++◌, length, map, take, drop, sum_by, filter, flat_map, is_some, Option, Some, None, slice_index}
-use Rattle.std.specs.Int.{cast_unsigned, w16}
+use Rattle.std.specs.Prelude.{ℕ, ◌+◌, ◌-◌, ◌*◌, ◌%◌, Bool, true, false, not, ◌||◌, if◌then◌else◌, ℤ, pos, negsuc, neg_ℤ, ◌-ℤ◌, int_lt, List, [], ◌∷◌, ◌++◌, length, map, take, drop, sum_by, filter, flat_map, Option, Some, None, slice_index}
 use Rattle.aseba_words.specs.Codes.{unary_code, binary_code}
 use Rattle.aseba_words.specs.declared.operators.Binary.TheVariants.{Differ}
 use Rattle.aseba_tree.specs.Code.{Project}
 use Rattle.aseba_codegen.specs.declared.coded.Coded.{Coded}
 use Rattle.aseba_tree.specs.Core.{CoreExpr, fixed, cell, indirect, prefix, infix_of, CoreTarget, into, into_index, CoreStmt, core_stmt, CoreForm, store, branch, on_edge, loop, send, enter, use_native, go_back, CoreStmts, no_core, core_stmts, CorePart, Core}
+use Rattle.aseba_tree.specs.CoreShape.{is_last}
 use Rattle.aseba_tree.specs.Sizes.{is_of_one_cell}
 use Rattle.aseba_tree.specs.Numbers.{is_large, jump_words}
 use Rattle.aseba_tree.specs.CoreNumbers.{param_count, is_handler, core_list_words, core_part_words, core_table_words, core_starts_from}
@@ -25,7 +25,8 @@ twelve_bits (negsuc n) = 4095 - n
 
 -- a number in sixteen bits
 abbrev pub sixteen_bits : ℤ → ℕ
-sixteen_bits v = cast_unsigned w16 v
+sixteen_bits (pos n) = n % 65536
+sixteen_bits (negsuc n) = 65535 - n
 
 -- Expressions
 
@@ -79,13 +80,14 @@ branch_word operator is_edge = instruction 10 (operator + (if is_edge then 256 e
 -- A condition and its branch, which goes on behind itself where it is true, and else so many words from the branch on.
 abbrev pub test_code : ℕ → Bool → Condition → ℕ → List Coded
 test_code line is_edge c otherwise =
-    on_line line c.words ++ record { word = branch_word c.operator is_edge; line = line; is_edge = is_edge } ∷ on_line line (otherwise ∷ [])
+    on_line line c.words ++ record { word = branch_word c.operator is_edge; line = line; is_edge = is_edge } ∷ on_line line (sixteen_bits (pos otherwise) ∷ [])
 
 -- with an else a jump stands behind the body
-abbrev pub if_code : Project → ℕ → Condition → List Coded → CoreStmts → List Coded → List Coded
-if_code project line c body no_core other = test_code line false c (2 + length body) ++ body
-if_code project line c body (core_stmts _ _) other =
-    test_code line false c (2 + length body + jump_words project) ++ body ++ on_line line (jump_code project (pos (jump_words project + length other))) ++ other
+abbrev pub if_code : Project → ℕ → Condition → List Coded → Bool → List Coded → List Coded
+if_code project line c body has_else other =
+    if has_else
+    then test_code line false c (2 + length body + jump_words project) ++ body ++ on_line line (jump_code project (pos (jump_words project + length other))) ++ other
+    else test_code line false c (2 + length body) ++ body
 
 abbrev pub when_code : ℕ → Condition → List Coded → List Coded
 when_code line c body = test_code line true c (2 + length body) ++ body
@@ -118,7 +120,7 @@ abbrev mutual
 
   pub form_code : Site → ℕ → CoreForm → List Coded
   form_code site line (store target e) = on_line line (store_code target e)
-  form_code site line (branch c body other) = if_code site.project line (condition_code c) (list_code site body) other (list_code site other)
+  form_code site line (branch c body other) = if_code site.project line (condition_code c) (list_code site body) (not (is_last other)) (list_code site other)
   form_code site line (on_edge c body) = when_code line (condition_code c) (list_code site body)
   form_code site line (loop c body) = loop_code site.project line (condition_code c) (list_code site body)
   form_code site line (send event address count) = on_line line (instruction 11 event ∷ address ∷ count ∷ [])
@@ -166,30 +168,36 @@ part_starts project core =
     let behind_init = init_start project core + core_list_words project core.init + 1 in
     if is_large project then starts_apart project (core_table_words core) behind_init core.parts else core_starts_from project behind_init core.parts
 
--- The event table: its length, the number and the address of the init code, then those of the handlers.
+-- The event table: its length with itself, the number and the address of the init code, then those of the handlers.
 abbrev pub handler_entry : Option ℕ → ℕ → List ℕ
 handler_entry None start = []
-handler_entry (Some event) start = event ∷ start ∷ []
+handler_entry (Some event) start = event ∷ sixteen_bits (pos start) ∷ []
 
-abbrev pub handler_entries : List CorePart → List ℕ → List ℕ
-handler_entries (part ∷ parts) (start ∷ starts) = handler_entry part.event start ++ handler_entries parts starts
-handler_entries _ _ = []
+-- the entries of parts, the first of which has this place among all
+abbrev pub handler_entries : List ℕ → ℕ → List CorePart → List ℕ
+handler_entries starts which [] = []
+handler_entries starts which (part ∷ parts) = handler_entry part.event (slice_index starts which) ++ handler_entries starts (which + 1) parts
+
+-- the first words of the code, and the entries behind them
+abbrev pub table_of : ℕ → List ℕ → List ℕ
+table_of init entries = sixteen_bits (pos (3 + length entries)) ∷ 0xffff ∷ sixteen_bits (pos init) ∷ entries
 
 abbrev pub table_code : Project → Core → List Coded
-table_code project core =
-    on_line 0 (core_table_words core ∷ 0xffff ∷ init_start project core ∷ handler_entries core.parts (part_starts project core))
+table_code project core = on_line 0 (table_of (init_start project core) (handler_entries (part_starts project core) 0 core.parts))
 
 abbrev pub parts_code : Project → List ℕ → List CorePart → List Coded
 parts_code project starts parts = flat_map (part_code project starts) parts
 
+-- the init code and the parts in their order
+abbrev pub bodies_code : Project → List ℕ → Core → List Coded
+bodies_code project starts core =
+    let init = init_code project starts core in
+    if is_large project then parts_code project starts (filter is_sub core.parts) ++ init ++ parts_code project starts (filter is_handler core.parts)
+    else init ++ parts_code project starts core.parts
+
 -- the code of a core for a project
 abbrev pub core_code : Project → Core → List Coded
-core_code project core =
-    let starts = part_starts project core in
-    let init = init_code project starts core in
-    table_code project core
-    ++ (if is_large project then parts_code project starts (filter is_sub core.parts) ++ init ++ parts_code project starts (filter is_handler core.parts)
-    else init ++ parts_code project starts core.parts)
+core_code project core = table_code project core ++ bodies_code project (part_starts project core) core
 
 -- the words alone, and the line of each
 abbrev pub code_words : Project → Core → List ℕ

@@ -1,7 +1,7 @@
 -- Small programs as words, and the lines that they come to on a small node. In place of a source's line they show the machine's counter.
 use Rattle.std.specs.Prelude.{◌≡◌, ℕ, List, [], ◌∷◌, ℤ, pos, codes}
 use Rattle.aseba_tree.specs.Code.{Name, Sized, Project}
-use Rattle.aseba_tree.specs.Line.{Line, Event, named, began, killed, sent, told, var, end}
+use Rattle.aseba_tree.specs.Line.{named, began, killed, sent, told, var, end}
 use Rattle.aseba_tree.specs.Script.{Entry, arrives}
 use Rattle.aseba_tree.specs.Layout.{placed_from}
 use Rattle.aseba_codegen.specs.Table.{Layout, table_lines}

@@ -1,11 +1,11 @@
 ghost use Rattle.std.specs.Prelude.{◌≡◌, ◌+◌, ◌-◌, ◌*◌, ◌<◌, ◌≤◌, ℤ, pos, neg_ℤ, negsuc, length, true, false, [], ◌∷◌, ◌++◌, IfOk, OnOk};
-ghost use Rattle.aseba_codegen.specs.Words.{Condition, on_line, far_jump, jump_code, test_code, if_code, when_code, loop_code};
+ghost use Rattle.aseba_codegen.specs.Words.{condition_code, store_code, on_line, far_jump, jump_code, test_code, if_code, when_code, loop_code};
 ghost use Rattle.aseba_tree.specs.Numbers.{is_large, jump_words};
-ghost use Rattle.aseba_tree.specs.View.{project_view, core_stmts_view};
+ghost use Rattle.aseba_tree.specs.View.{core_expr_view, core_target_view, project_view};
 
 use crate::coded::Coded;
-use crate::words::{add, word_of};
-use aseba_tree::Project;
+use crate::words::{add, add_condition, add_store, word_of};
+use aseba_tree::{CoreExpr, CoreTarget, Project};
 use aseba_words::{Binary, List, Mem};
 use std::alloc::Global;
 
@@ -49,29 +49,31 @@ fn jump_len(project: &Project) -> usize
 }
 
 /// Adds a jump to so many words behind its first.
+#[tactic(auto, using(crate::proofs::Jumps::jumps))]
 fn add_jump(code: &mut List<Coded>, project: &Project, line: u32, by: usize) -> Result<(), Mem>
-    requires { (2 ≤ by) × (by ≤ 32767) }
+    requires { jump_words (project_view project.now) ≤ by }
     ensures { OnOk result (code.new ≡ code.old ++ on_line line (jump_code (project_view project.now) (pos by))) }
 {
     if is_large_project(project) {
-        add_far(code, line, (by - 2) as u16)
+        add_far(code, line, ((by - 2) % 65536) as u16)
     } else {
-        add_words(code, line, &[word_of(9, by as u16)])
+        add_words(code, line, &[word_of(9, (by % 4096) as u16)])
     }
 }
 
 /// Adds a jump to so many words before its first.
+#[tactic(auto, using(crate::proofs::Jumps::jumps))]
 fn add_jump_back(code: &mut List<Coded>, project: &Project, line: u32, by: usize) -> Result<(), Mem>
-    requires { (1 ≤ by) × (by ≤ 32767) }
+    requires { 1 ≤ by }
     ensures { OnOk result (code.new ≡ code.old ++ on_line line (jump_code (project_view project.now) (neg_ℤ (pos by)))) }
 {
     if is_large_project(project) {
-        add_far(code, line, (65534 - by) as u16)
+        add_far(code, line, 65534_usize.saturating_sub(by) as u16)
     } else {
         add_words(
             code,
             line,
-            &[word_of(9, 4096_u16.saturating_sub(by as u16))],
+            &[word_of(9, 4096_usize.saturating_sub(by) as u16)],
         )
     }
 }
@@ -99,7 +101,6 @@ fn add_test(
     otherwise: usize,
 ) -> Result<(), Mem>
     requires operator { operator < 256 }
-    requires otherwise { otherwise < 65536 }
     ensures { OnOk result (code.new ≡ code.old ++ test_code line is_edge (record { words = words.now; operator = operator }) otherwise) }
 {
     add_words(code, line, words)?;
@@ -110,62 +111,102 @@ fn add_test(
         is_edge,
     };
     add(code, branch)?;
-    add_words(code, line, &[otherwise as u16])
+    add_words(code, line, &[(otherwise % 65536) as u16])
 }
 
-/// Adds an `if` with the code of its body.
+/// Adds an `if` with the code of its body and, where it has one, of its else.
 pub fn add_if(
+    alloc: Global,
     code: &mut List<Coded>,
+    project: &Project,
     line: u32,
-    words: &[u16],
-    operator: u16,
+    test: &CoreExpr,
     body: &[Coded],
+    has_else: bool,
+    other: &[Coded],
 ) -> Result<(), Mem>
-    requires operator { operator < 256 }
-    requires few { length body.now ≤ 32000 }
-    ensures { OnOk result (code.new ≡ code.old ++ (test_code line false (record { words = words.now; operator = operator }) (2 + length body.now) ++ body.now)) }
+    ensures { OnOk result (code.new ≡ code.old ++ if_code (project_view project.now) line (condition_code (core_expr_view test.now)) body.now has_else other.now) }
 {
-    add_test(code, line, false, words, operator, 2 + body.len())?;
-    add_code(code, body)
+    let mut words = List::new(alloc);
+    let operator = add_condition(&mut words, test)?;
+    if has_else {
+        let jump = jump_len(project);
+        add_test(
+            code,
+            line,
+            false,
+            words.as_slice(),
+            operator,
+            2 + body.len() + jump,
+        )?;
+        add_code(code, body)?;
+        add_jump(code, project, line, jump + other.len())?;
+        add_code(code, other)
+    } else {
+        add_test(
+            code,
+            line,
+            false,
+            words.as_slice(),
+            operator,
+            2 + body.len(),
+        )?;
+        add_code(code, body)
+    }
 }
 
 /// Adds a `when` with the code of its body.
 pub fn add_when(
+    alloc: Global,
     code: &mut List<Coded>,
     line: u32,
-    words: &[u16],
-    operator: u16,
+    test: &CoreExpr,
     body: &[Coded],
 ) -> Result<(), Mem>
-    requires operator { operator < 256 }
-    requires few { length body.now ≤ 32000 }
-    ensures { OnOk result (code.new ≡ code.old ++ when_code line (record { words = words.now; operator = operator }) body.now) }
+    ensures { OnOk result (code.new ≡ code.old ++ when_code line (condition_code (core_expr_view test.now)) body.now) }
 {
-    add_test(code, line, true, words, operator, 2 + body.len())?;
+    let mut words = List::new(alloc);
+    let operator = add_condition(&mut words, test)?;
+    add_test(code, line, true, words.as_slice(), operator, 2 + body.len())?;
     add_code(code, body)
 }
 
 /// Adds a loop with the code of its body.
 pub fn add_loop(
+    alloc: Global,
     code: &mut List<Coded>,
     project: &Project,
     line: u32,
-    words: &[u16],
-    operator: u16,
+    test: &CoreExpr,
     body: &[Coded],
 ) -> Result<(), Mem>
-    requires operator { operator < 256 }
-    requires few { length words.now + length body.now ≤ 32000 }
-    ensures { OnOk result (code.new ≡ code.old ++ loop_code (project_view project.now) line (record { words = words.now; operator = operator }) body.now) }
+    ensures { OnOk result (code.new ≡ code.old ++ loop_code (project_view project.now) line (condition_code (core_expr_view test.now)) body.now) }
 {
+    let mut words = List::new(alloc);
+    let operator = add_condition(&mut words, test)?;
     add_test(
         code,
         line,
         false,
-        words,
+        words.as_slice(),
         operator,
         2 + body.len() + jump_len(project),
     )?;
     add_code(code, body)?;
-    add_jump_back(code, project, line, words.len() + 2 + body.len())
+    add_jump_back(code, project, line, words.as_slice().len() + 2 + body.len())
+}
+
+/// Adds a store.
+pub fn add_stored(
+    alloc: Global,
+    code: &mut List<Coded>,
+    line: u32,
+    target: &CoreTarget,
+    value: &CoreExpr,
+) -> Result<(), Mem>
+    ensures { OnOk result (code.new ≡ code.old ++ on_line line (store_code (core_target_view target.now) (core_expr_view value.now))) }
+{
+    let mut words = List::new(alloc);
+    add_store(&mut words, target, value)?;
+    add_words(code, line, words.as_slice())
 }

@@ -9,9 +9,16 @@ ghost use Rattle.aseba_codegen.specs.Worked.{ForLoop, KillInExpression, SubCall,
 
 mod code;
 mod coded;
+mod error;
+mod image;
+mod parts;
+mod starts;
+mod statements;
 mod words;
 
 pub use coded::Coded;
+pub use error::GenError;
+pub use image::{Image, generate};
 
 /// A run has a beat for each tick.
 pub fn beats_are_ticks()

@@ -1,9 +1,10 @@
-ghost use Rattle.std.specs.Prelude.{◌≡◌, ◌<◌, ◌≤◌, All, ◌||◌, not, false, int_lt, negsuc, pos, flat_map, [], ◌∷◌, ◌++◌, IfOk, OnOk};
-ghost use Rattle.aseba_codegen.specs.Words.{instruction, twelve_bits, number_code, large_number_code, expr_code, condition_code, store_code, differs_from_zero};
+ghost use Rattle.std.specs.Prelude.{◌≡◌, ◌<◌, ◌||◌, not, false, int_lt, negsuc, pos, flat_map, [], ◌∷◌, ◌++◌, IfOk, OnOk};
+ghost use Rattle.aseba_codegen.specs.Words.{instruction, twelve_bits, sixteen_bits, number_code, large_number_code, expr_code, condition_code, store_code, differs_from_zero, native_code};
 ghost use Rattle.aseba_tree.specs.Sizes.{is_of_one_cell};
-ghost use Rattle.aseba_tree.specs.View.{core_expr_view, core_target_view};
+ghost use Rattle.aseba_tree.specs.View.{core_expr_view, core_target_view, project_view};
+ghost use Rattle.aseba_tree.specs.CoreNumbers.{param_count};
 
-use aseba_tree::{CoreExpr, CoreTarget};
+use aseba_tree::{CoreExpr, CoreTarget, Project};
 use aseba_words::{Binary, List, Mem};
 
 /// Adds an element at the end.
@@ -51,6 +52,17 @@ fn in_twelve_bits(value: i16) -> u16
     }
 }
 
+/// A number in sixteen bits.
+fn in_sixteen_bits(value: i16) -> u16
+    ensures { result ≡ sixteen_bits value }
+{
+    if value < 0 {
+        65535 - (-1 - value) as u16
+    } else {
+        value as u16
+    }
+}
+
 /// Adds the code that pushes a number.
 pub fn add_number(words: &mut List<u16>, value: i16) -> Result<(), Mem>
     ensures { OnOk result (words.new ≡ words.old ++ number_code value) }
@@ -58,7 +70,7 @@ pub fn add_number(words: &mut List<u16>, value: i16) -> Result<(), Mem>
     if is_small(value) {
         add(words, word_of(1, in_twelve_bits(value)))
     } else {
-        add_large(words, value.cast_unsigned())
+        add_large(words, in_sixteen_bits(value))
     }
 }
 
@@ -107,6 +119,7 @@ fn compares(op: Binary) -> bool
 fn add_value(words: &mut List<u16>, value: &CoreExpr) -> Result<u16, Mem>
     ensures operator { IfOk result (λ op. op ≡ (differs_from_zero (core_expr_view value.now)).operator) }
     ensures words { OnOk result (words.new ≡ words.old ++ (differs_from_zero (core_expr_view value.now)).words) }
+    ensures low { IfOk result (λ op. op < 256) }
 {
     add_expr(words, value)?;
     add_number(words, 0)?;
@@ -117,6 +130,7 @@ fn add_value(words: &mut List<u16>, value: &CoreExpr) -> Result<u16, Mem>
 pub fn add_condition(words: &mut List<u16>, test: &CoreExpr) -> Result<u16, Mem>
     ensures operator { IfOk result (λ op. op ≡ (condition_code (core_expr_view test.now)).operator) }
     ensures words { OnOk result (words.new ≡ words.old ++ (condition_code (core_expr_view test.now)).words) }
+    ensures low { IfOk result (λ op. op < 256) }
 {
     match test {
         CoreExpr::Two(op, left, right) if compares(*op) => {
@@ -153,13 +167,49 @@ fn add_addresses(words: &mut List<u16>, addresses: &[u16]) -> Result<(), Mem>
     Ok(())
 }
 
+/// Adds the code that pushes a length.
+fn add_length(words: &mut List<u16>, length: u16) -> Result<(), Mem>
+    ensures { OnOk result (words.new ≡ words.old ++ number_code (pos length)) }
+{
+    if length > 2047 {
+        add_large(words, length)
+    } else {
+        add(words, word_of(1, length))
+    }
+}
+
 /// Adds the code that pushes lengths.
 fn add_lengths(words: &mut List<u16>, lengths: &[u16]) -> Result<(), Mem>
-    requires { All (λ n. n ≤ 32767) lengths.now }
     ensures { OnOk result (words.new ≡ words.old ++ flat_map (λ n. number_code (pos n)) lengths.now) }
 {
     for length in lengths {
-        add_number(words, *length as i16)?;
+        add_length(words, *length)?;
     }
     Ok(())
+}
+
+/// How many parameters a native of the project has, none where there is no such native.
+fn params_of(project: &Project, native: u16) -> usize
+    ensures { result ≡ param_count (project_view project.now) native }
+{
+    match project.node.natives.as_slice().get(usize::from(native)) {
+        Some(native) => native.params.as_slice().len(),
+        None => 0,
+    }
+}
+
+/// Adds the code that calls a native with an address for each parameter and the lengths behind them.
+pub fn add_call(
+    words: &mut List<u16>,
+    project: &Project,
+    native: u16,
+    values: &[u16],
+) -> Result<(), Mem>
+    ensures { OnOk result (words.new ≡ words.old ++ native_code (project_view project.now) native values.now) }
+{
+    let count = params_of(project, native).min(values.len());
+    let (addresses, lengths) = values.split_at(count);
+    add_addresses(words, addresses)?;
+    add_lengths(words, lengths)?;
+    add(words, word_of(12, native))
 }

@@ -1,0 +1,22 @@
+-- What the generator answers.
+use Rattle.std.specs.Prelude.{◌≡◌, ◌<◌, ◌≤◌}
+use Rattle.aseba_tree.specs.Code.{Project}
+use Rattle.aseba_tree.specs.Core.{Core}
+use Rattle.aseba_codegen.specs.declared.error.GenError.{GenError}
+use Rattle.aseba_codegen.specs.declared.error.GenError.TheVariants.{CodeFull, StackFull, Mem}
+use Rattle.aseba_codegen.specs.declared.image.Image.{Image}
+use Rattle.aseba_codegen.specs.Words.{code_words, code_lines}
+
+-- the plain code of a core, with the first cell behind its variables
+pub record IsImage (project : Project) (core : Core) (image : Image) : Type 0 where
+  pub words : image.words ≡ code_words project core
+  pub lines : image.lines ≡ code_lines project core
+  pub temp_start : image.temp_start ≡ core.cells
+  pub size_fits : core.size ≤ project.node.code
+  pub depth_fits : core.depth ≤ project.node.stack
+
+-- what a core needs is more than its node has
+abbrev pub TellsNeed : Project → Core → GenError → Type 0
+TellsNeed project core (CodeFull need have) = (need ≡ core.size) × (have ≡ project.node.code) × (have < need)
+TellsNeed project core (StackFull need have) = (need ≡ core.depth) × (have ≡ project.node.stack) × (have < need)
+TellsNeed project core Mem = Unit {0}
