@@ -374,6 +374,8 @@ module _ (project : Project) (variables : List Sized) (init : CoreStmts) (cells 
       let last = end.1 in
       let many : length (table_beats project layout (code_words project core) [] n) ≡ n = beats_are_ticks project layout (code_words project core) [] n in
       record {
+        ticks = last.ticks;
+        effects = last.effects;
         lines = last.lines;
         seen = seen program code weight layout end.0 (all_ticking project layout [] n r) (core_all_ticking program [] c (beats_from project layout [] n r)) end.1;
         paced = record {

@@ -18,7 +18,7 @@ use Rattle.aseba_vm.specs.Tick.{ticked}
 use Rattle.aseba_codegen.specs.Table.{Layout, Run, all_acting, ticking, all_ticking, beginning, started, table_beats}
 use Rattle.aseba_codegen.specs.declared.coded.Coded.{Coded}
 use Rattle.aseba_codegen.specs.Words.{core_code, code_words}
-use Rattle.aseba_codegen.specs.CoreRun.{core_run_of, CorePaced}
+use Rattle.aseba_codegen.specs.CoreRun.{CoreRun, core_run_of, CorePaced}
 
 -- What is asked of projects and cores
 
@@ -149,15 +149,31 @@ errors_from project layout script zero run = []
 errors_from project layout script (suc n) run =
     is_error (ticked (all_acting project layout run (actions_at script run.ticks)).machine).0 ∷ errors_from project layout script n (ticking project layout script run)
 
--- After some ticks the machine stands at the core's state after as many steps as there were effects, and both told the same, with a place of the code where
--- the core has a line.
+-- the words of a program's core
+abbrev pub words_of : CoreProgram → List ℕ
+words_of program = code_words program.project program.core
+
+-- so many ticks of the machine on them
+abbrev pub run_of_words : CoreProgram → Layout → Script → ℕ → Run
+run_of_words program layout script n = all_ticking program.project layout script n (beginning (started program.project (words_of program)))
+
+-- the ticks of that run that were effects
+abbrev pub beats_of_words : CoreProgram → Layout → Script → ℕ → List Bool
+beats_of_words program layout script n = table_beats program.project layout (words_of program) script n
+
+-- the core's run with a step at each of these
+abbrev pub run_of_core : CoreProgram → Layout → Script → ℕ → CoreRun
+run_of_core program layout script n = core_run_of program script (beats_of_words program layout script n)
+
+-- After some ticks the machine stands at the core's state after as many steps as there were effects. Both told the same, with a place of the code where the
+-- core has a line; the effects kept the core's pace, and no tick was a node error.
 pub record RunsAlike (program : CoreProgram) (layout : Layout) (script : Script) (n : ℕ) : Type 0 where
-  pub lines : map (line_by (line_at (core_code program.project program.core))) (all_ticking program.project layout script n (beginning (started program.project (code_words program.project program.core)))).lines
-      ≡ (core_run_of program script (table_beats program.project layout (code_words program.project program.core) script n)).lines
-  pub seen : Seen (core_code program.project program.core) program.core.cells (all_ticking program.project layout script n (beginning (started program.project (code_words program.project program.core)))).machine
-      (core_run_of program script (table_beats program.project layout (code_words program.project program.core) script n)).state
-  pub paced : CorePaced (core_weight program.core) program script (table_beats program.project layout (code_words program.project program.core) script n)
-  pub no_error : IsTrue (list_all not (errors_from program.project layout script n (beginning (started program.project (code_words program.project program.core)))))
+  pub ticks : (run_of_words program layout script n).ticks ≡ (run_of_core program layout script n).ticks
+  pub effects : (run_of_words program layout script n).effects ≡ (run_of_core program layout script n).steps
+  pub lines : map (line_by (line_at (core_code program.project program.core))) (run_of_words program layout script n).lines ≡ (run_of_core program layout script n).lines
+  pub seen : Seen (core_code program.project program.core) program.core.cells (run_of_words program layout script n).machine (run_of_core program layout script n).state
+  pub paced : CorePaced (core_weight program.core) program script (beats_of_words program layout script n)
+  pub no_error : IsTrue (list_all not (errors_from program.project layout script n (beginning (started program.project (words_of program)))))
 
 -- Straight code, run without a script, runs as its core does.
 abbrev pub StraightCodeRuns : Type 0
