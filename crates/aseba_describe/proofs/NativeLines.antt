@@ -102,10 +102,19 @@ natives_of p =
     let d = natives_in-append (node_entries p ++ vs) ls in
     let e = natives_in-append (node_entries p) vs in
     let none : natives_in (node_entries p) ≡ 0 = refl in
-    omega
-    (
-      arith, a, b, c, d, e, none, no_natives (λ v. entry.Variable v) (λ _. refl) p.node.variables, no_natives (λ l. entry.Local l) (λ _. refl) p.node.locals,
-      all_natives p.node.natives, no_natives (λ e. entry.Event e) (λ _. refl) p.events, no_natives (λ c. entry.Const c) (λ _. refl) p.consts,
+    omega (
+      arith,
+      a,
+      b,
+      c,
+      d,
+      e,
+      none,
+      no_natives (λ v. entry.Variable v) (λ _. refl) p.node.variables,
+      no_natives (λ l. entry.Local l) (λ _. refl) p.node.locals,
+      all_natives p.node.natives,
+      no_natives (λ e. entry.Event e) (λ _. refl) p.events,
+      no_natives (λ c. entry.Const c) (λ _. refl) p.consts,
     )
 
 -- what says nothing tells of no native

@@ -1,11 +1,11 @@
 -- A loop that gathers as many things as begin one behind the other.
-use Rattle.std.proofs.Common.{◌≡◌, ◌∙◌, ◌≤◌, ◌<◌, Bool, true, false, List, [], ◌∷◌, ◌++◌, length, refl, sym, ap, subst, arith}
+use Rattle.std.proofs.Common.{◌≡◌, ◌<◌, Bool, true, List, [], ◌∷◌, ◌++◌, length, refl, sym, subst, arith}
 use Rattle.aseba_tree.specs.declared.token.Token.{Token}
 use Rattle.aseba_tree.specs.declared.token.TokenKind.{TokenKind}
 use Rattle.aseba_parser.specs.declared.fault.Fault.{Fault}
 use Rattle.aseba_parser.specs.Reading.{Read, taken, wrong, deep, next, all_of}
 use Rattle.aseba_parser.specs.Reads.{Stops, begins_with}
-use Rattle.aseba_parser.proofs.Loops.{Gathers, at-start, gathers-on, gathered, stops-there, from-stop}
+use Rattle.aseba_parser.proofs.Loops.{Gathers, at-start, gathers-on, stops-there, from-stop}
 
 pub gathers-from : {A B : Type 0} (begins : TokenKind → Bool) (read : List Token → Read A) (use_all : List A → List Token → Read B) (before : List A) (tokens : List Token) → before ≡ []
     → Gathers begins read use_all before tokens (next (all_of begins read tokens) use_all)

@@ -1,12 +1,11 @@
 -- A turn of the loop over the operators of a level.
-use Rattle.std.proofs.Common.{◌≡◌, ◌∙◌, ℕ, ◌≤◌, ◌<◌, Bool, true, false, List, [], ◌∷◌, length, Option, Some, None, refl, sym, ap, subst, arith}
+use Rattle.std.proofs.Common.{◌≡◌, ◌∙◌, ℕ, ◌≤◌, false, List, ◌∷◌, length, Some, sym, ap, subst}
 use Rattle.aseba_tree.specs.declared.token.Token.{Token}
 use Rattle.aseba_words.specs.declared.operators.Binary.{Binary}
 use Rattle.aseba_tree.specs.Code.{Expr, expr, two}
 use Rattle.aseba_tree.specs.Spells.{place, first_of}
 use Rattle.aseba_parser.specs.declared.fault.Fault.{Fault}
-use Rattle.aseba_parser.specs.declared.fault.Fault.TheVariants as fault
-use Rattle.aseba_parser.specs.Reading.{Read, taken, wrong, deep, next, infix_at, goes_on, operation, operation_by, Operation, grouped, is_there}
+use Rattle.aseba_parser.specs.Reading.{Read, taken, next, infix_at, goes_on, operation, operation_by, Operation, grouped, is_there}
 use Rattle.aseba_parser.specs.Reads.{Stops, begins_with}
 use Rattle.aseba_parser.proofs.Loops.{GoesOn, goes-on, stops-there, ends-there, from-taken, from-stop, stops-with}
 

@@ -1,5 +1,5 @@
 -- What the laws of reading say: what is read is spelled so, what is spelled so is read, and the answer at a token doesn't depend on what stands behind it.
-use Rattle.std.specs.Prelude.{◌≡◌, ℕ, zero, suc, ◌≤◌, ◌<◌, List, [], ◌∷◌, ◌++◌, drop, Option, Some, None, Bool, true, false, nat_lt}
+use Rattle.std.specs.Prelude.{◌≡◌, ℕ, suc, ◌≤◌, List, [], ◌∷◌, ◌++◌, drop, Option, Some, None, true, false, nat_lt}
 use Rattle.aseba_tree.specs.declared.token.Token.{Token}
 use Rattle.aseba_tree.specs.Code.{Source, Project}
 use Rattle.aseba_tree.specs.Spells.{Spells}

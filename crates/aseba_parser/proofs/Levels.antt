@@ -1,7 +1,7 @@
 -- An expression of a level that no prefix operator of that level begins.
-use Rattle.std.proofs.Common.{◌≡◌, ◌∙◌, ℕ, zero, suc, ◌-◌, ◌≤◌, ◌<◌, List, [], ◌∷◌, length, Option, Some, None, refl, sym, ap, subst, arith}
+use Rattle.std.proofs.Common.{◌≡◌, ◌∙◌, ℕ, zero, suc, ◌-◌, ◌≤◌, List, [], ◌∷◌, length, None, sym, ap, subst, arith}
 use Rattle.aseba_tree.specs.declared.token.Token.{Token}
-use Rattle.aseba_parser.specs.Reading.{Read, Inside, level_read, prefixed, prefixed_by, unprefixed, prefix_at}
+use Rattle.aseba_parser.specs.Reading.{Inside, level_read, prefixed, prefixed_by, unprefixed, prefix_at}
 
 step-of : (inside : Inside) (level : ℕ) (tokens : List Token) → 1 ≤ level → level_read inside level tokens ≡ prefixed inside level (level_read inside (level - 1)) tokens
 step-of inside zero tokens least = absurd (omega arith)

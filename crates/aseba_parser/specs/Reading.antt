@@ -1,6 +1,6 @@
 -- What a parser that looks one token ahead reads: a value and the tokens behind it, or where it stops. The parser's own functions cite it;
 -- what it has to do with the trees that tokens spell is shown in proofs/.
-use Rattle.std.specs.Prelude.{◌≡◌, ℕ, zero, suc, ℤ, Bool, true, false, List, [], ◌∷◌, length, nat_eq, Option, Some, None, Result}
+use Rattle.std.specs.Prelude.{ℕ, zero, suc, Bool, true, false, List, [], ◌∷◌, length, nat_eq, Option, Some, None}
 use Rattle.aseba_tree.specs.declared.token.Token.{Token}
 use Rattle.aseba_tree.specs.declared.token.TokenKind.{TokenKind}
 use Rattle.aseba_tree.specs.declared.token.Key.{Key}

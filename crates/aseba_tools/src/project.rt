@@ -23,11 +23,7 @@ use std::alloc::Global;
 const MOST_PROJECT: u64 = 1_048_576;
 
 /// The project that a word names: the default one, or that of a file's text.
-pub fn named_project<F: Files>(
-    alloc: Global,
-    word: &str,
-    files: &mut F,
-) -> Result<Project, Status>
+pub fn named_project<F: Files>(alloc: Global, word: &str, files: &mut F) -> Result<Project, Status>
     ensures project { IfOk result (IsProject word.now (option_map (λ files. files word.now) (F.contents files.old))) }
     ensures inside { IfOk result InsideProject }
     ensures why { IfErr result (NoProject word.now (option_map (λ files. files word.now) (F.contents files.old))) }

@@ -1,4 +1,4 @@
-use Rattle.std.proofs.Common.{◌≡◌, ◌∙◌, ◌<◌, ◌≤◌, length, true, false, map, refl, sym, ap, arith}
+use Rattle.std.proofs.Common.{◌≡◌, ◌∙◌, ◌<◌, length, true, false, map, refl, sym, ap, arith}
 use Rattle.std.proofs.lemmas.Result.{err_from_is_err_and}
 use Rattle.aseba_tree.specs.View.{project_view, stmt_view, stmts_of}
 use Rattle.aseba_parser.specs.Reading.{taken, begins_stmt, stmt_read, block_of, if_read, when_read, while_read, for_read, elseif_read}

@@ -1,4 +1,4 @@
-use Rattle.std.proofs.Common.{◌≡◌, ◌<◌, ◌≤◌, ℕ, length, arith}
+use Rattle.std.proofs.Common.{◌<◌, ◌≤◌, ℕ, arith}
 use Rattle.std.proofs.lemmas.Result.{err_from_is_err_and}
 use Rattle.aseba_parser.proofs.Loops.{stops-with}
 use Rattle.aseba_parser.proofs.Steps.{and-then, and-stops}

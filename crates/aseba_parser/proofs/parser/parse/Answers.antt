@@ -1,4 +1,4 @@
-use Rattle.std.proofs.Common.{◌≡◌, List}
+use Rattle.std.proofs.Common.{List}
 use Rattle.aseba_tree.specs.declared.pos.Pos.{Pos}
 use Rattle.aseba_tree.specs.declared.token.Token.{Token}
 use Rattle.aseba_tree.specs.Code.{Project}

@@ -19,5 +19,5 @@ pub returns : goal.returns
 returns c =
     c.reset.ensures
     ∙ ap (reset_state false)
-        (c.load.ensures.state ∙ ap (λ (s : State). (loaded 0 c.args.words.now s).1) (c.in_ok-machine.ensures ∙ ap (λ s. made s c.args.project.now.id) c.shape.ensures))
+    (c.load.ensures.state ∙ ap (λ (s : State). (loaded 0 c.args.words.now s).1) (c.in_ok-machine.ensures ∙ ap (λ s. made s c.args.project.now.id) c.shape.ensures))
     ∙ sym (started-is (project_view c.args.project.now) c.args.words.now)
