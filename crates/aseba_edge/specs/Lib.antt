@@ -2,6 +2,7 @@ pub mod Clock
 pub mod Counts
 pub mod Dialer
 pub mod Files
+pub mod Gate
 pub mod Link
 pub mod MemoryDialer
 pub mod MemoryFiles

@@ -1,5 +1,6 @@
 ghost use Rattle.std.specs.Prelude.{◌≡◌, ◌<◌, ◌≤◌, IfOk, IsErr, IsOk, OnErr, OnOk, Some, None, [], false, true, is_err, length, refl, take};
 ghost use Rattle.aseba_edge.specs.Counts.{Counts};
+ghost use Rattle.aseba_edge.specs.Gate.{IsOpen, IsStuck, until_of};
 ghost use Rattle.aseba_edge.specs.Link.{after_read, is_empty, next_bytes};
 ghost use Rattle.aseba_edge.specs.Plan.{is_named, next_call};
 ghost use Rattle.aseba_edge.specs.Tape.{full};
@@ -13,7 +14,7 @@ use std::alloc::Global;
 
 /// The input of a link in memory. It gives its pieces one by one. Given reads fail, the first being
 /// number 1. One with a gate waits at the end of its bytes until its output has taken a number of
-/// bytes, and fails where that doesn't come.
+/// bytes, and fails where that hasn't come after 1,000,000 turns.
 #[derive(Drop)]
 pub struct MemoryIn {
     tape: Tape,
@@ -36,6 +37,7 @@ impl MemoryIn {
         ensures mark { IfOk result (λ input. input.mark ≡ mark) }
         ensures plan { IfOk result (λ input.
             input.plan ≡ record { failing = failing; calls = 0; faults = 0 }) }
+        ensures gate { IfOk result (λ input. input.gate ≡ gate) }
     {
         Ok(MemoryIn {
             tape: Tape::new(alloc, pieces)?,
@@ -45,13 +47,20 @@ impl MemoryIn {
         })
     }
 
-    // Whether nothing keeps the input from its end.
-    fn is_open(&self) -> bool
-        ensures free { self.now.gate ≡ None → result ≡ true }
-        ensures before { is_empty self.now.tape.left ≡ false → result ≡ true }
+    // Whether nothing keeps the input from its end. At the end of its bytes it waits at its gate.
+    fn is_open(&mut self) -> bool
+        ensures free { self.old.gate ≡ None → result ≡ true }
+        ensures before { is_empty self.old.tape.left ≡ false → result ≡ true }
+        ensures open { result ≡ true → is_empty self.old.tape.left ≡ true → IsOpen self.new.gate }
+        ensures stuck { result ≡ false → IsStuck self.new.gate }
+        ensures until { until_of self.new.gate ≡ until_of self.old.gate }
+        ensures rest { self.new ≡ record self.old { gate = self.new.gate } }
     {
-        match &self.gate {
-            Some(gate) => !self.tape.is_at_end() || gate.wait(),
+        if !self.tape.is_at_end() {
+            return true;
+        }
+        match &mut self.gate {
+            Some(gate) => gate.wait(),
             None => true,
         }
     }
@@ -90,6 +99,11 @@ impl LinkIn for MemoryIn {
             self.old.gate ≡ None → IsOk result }
         ensures before { is_named self.old.plan.failing (next_call self.old.plan.calls) ≡ false →
             is_empty self.old.tape.left ≡ false → IsOk result }
+        ensures open { IfOk result (λ count.
+            count ≡ 0 → 0 < length buf.old → IsOpen self.new.gate) }
+        ensures stuck { is_named self.old.plan.failing (next_call self.old.plan.calls) ≡ false →
+            IsErr result → IsStuck self.new.gate }
+        ensures until { until_of self.new.gate ≡ until_of self.old.gate }
     {
         if self.plan.begin() || !self.is_open() {
             self.plan.fail();

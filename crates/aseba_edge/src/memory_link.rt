@@ -49,7 +49,8 @@ pub struct MemoryLink {
 }
 
 impl MemoryLink {
-    ghost use Rattle.std.specs.Prelude.{IfOk};
+    ghost use Rattle.std.specs.Prelude.{IfOk, None, Some};
+    ghost use Rattle.aseba_edge.specs.Gate.{until_of};
     ghost use Rattle.aseba_edge.specs.Tape.{full};
 
     /// A link whose input gives these pieces and ends then.
@@ -57,6 +58,12 @@ impl MemoryLink {
         ensures left { IfOk result (λ link. link.input.tape.left ≡ full pieces.now) }
         ensures mark { IfOk result (λ link. link.input.mark ≡ script.mark) }
         ensures room { IfOk result (λ link. link.output.sink.room ≡ script.room) }
+        ensures reads { IfOk result (λ link. link.input.plan ≡
+            record { failing = script.failing_reads; calls = 0; faults = 0 }) }
+        ensures puts { IfOk result (λ link. link.output.sink.plan ≡
+            record { failing = script.failing_puts; calls = 0; faults = 0 }) }
+        ensures free { IfOk result (λ link.
+            (link.input.gate ≡ None) × (link.output.gate ≡ None)) }
     {
         let LinkScript {
             mark,
@@ -81,6 +88,12 @@ impl MemoryLink {
         ensures left { IfOk result (λ link. link.input.tape.left ≡ full pieces.now) }
         ensures mark { IfOk result (λ link. link.input.mark ≡ script.mark) }
         ensures room { IfOk result (λ link. link.output.sink.room ≡ script.room) }
+        ensures reads { IfOk result (λ link. link.input.plan ≡
+            record { failing = script.failing_reads; calls = 0; faults = 0 }) }
+        ensures puts { IfOk result (λ link. link.output.sink.plan ≡
+            record { failing = script.failing_puts; calls = 0; faults = 0 }) }
+        ensures until { IfOk result (λ link.
+            (until_of link.input.gate ≡ Some until) × (until_of link.output.gate ≡ Some until)) }
     {
         let LinkScript {
             mark,
@@ -123,6 +136,10 @@ impl MemoryPolledLink {
         ensures left { IfOk result (λ link. link.input.tape.left ≡ full answers.now) }
         ensures mark { IfOk result (λ link. link.input.mark ≡ script.mark) }
         ensures room { IfOk result (λ link. link.output.sink.room ≡ script.room) }
+        ensures polls { IfOk result (λ link. link.input.plan ≡
+            record { failing = script.failing_reads; calls = 0; faults = 0 }) }
+        ensures puts { IfOk result (λ link. link.output.sink.plan ≡
+            record { failing = script.failing_puts; calls = 0; faults = 0 }) }
     {
         let LinkScript {
             mark,

@@ -1,5 +1,6 @@
-ghost use Rattle.std.specs.Prelude.{◌≡◌, IfErr, IfOk, OnOk, Some, [], is_err, refl};
+ghost use Rattle.std.specs.Prelude.{◌≡◌, IfErr, IfOk, OnOk, Some, [], is_err, option_map, refl, vec_len};
 ghost use Rattle.aseba_edge.specs.Counts.{Counts};
+ghost use Rattle.aseba_edge.specs.Gate.{taken_of, until_of};
 ghost use Rattle.aseba_edge.specs.MemorySink.{put_answer};
 ghost use Rattle.aseba_edge.specs.Sink.{Took, TookFewer};
 
@@ -32,6 +33,7 @@ impl MemoryOut {
         ensures mark { IfOk result (λ output. output.mark ≡ mark) }
         ensures plan { IfOk result (λ output.
             output.sink.plan ≡ record { failing = failing; calls = 0; faults = 0 }) }
+        ensures gate { IfOk result (λ output. output.gate ≡ gate) }
     {
         Ok(MemoryOut {
             sink: MemorySink::new(alloc, room, failing)?,
@@ -65,9 +67,12 @@ impl LinkOut for MemoryOut {
         ensures mark { self.new.mark ≡ self.old.mark }
         ensures count { Counts (is_err result) self.old.sink.plan.faults self.new.sink.plan.faults }
         ensures answer { result ≡ put_answer self.old.sink piece.now }
+        ensures told { taken_of self.new.gate ≡
+            option_map (λ _. vec_len self.new.sink.bytes) self.old.gate }
+        ensures until { until_of self.new.gate ≡ until_of self.old.gate }
     {
         let answer = self.sink.put(piece);
-        if let Some(gate) = &self.gate {
+        if let Some(gate) = &mut self.gate {
             gate.tell(self.sink.bytes().len() as u64);
         }
         answer
