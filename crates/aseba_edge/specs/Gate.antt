@@ -1,19 +1,28 @@
 -- What keeps an input in memory from its end.
-use Rattle.std.specs.Prelude.{◌≡◌, ℕ, ◌<◌, ◌≤◌, Option, option_map, IfSome, MatchOption}
+use Rattle.std.specs.Prelude.{◌≡◌, ℕ, ◌<◌, ◌≤◌, Option, None, Some, option_map, IfSome, MatchOption}
 use Rattle.aseba_edge.specs.declared.gate.Gate.{Gate}
+
+-- there is a gate, for so many bytes, at which the input waits for so many turns
+abbrev pub IsGated : ℕ → ℕ → Option Gate → Type 0
+IsGated until turns gate = MatchOption gate ⊥ (λ gate. (gate.until ≡ until) × (gate.turns ≡ turns))
 
 -- how many bytes the output has to take before the input may end, where it has a gate
 abbrev pub until_of : Option Gate → Option ℕ
 until_of gate = option_map (λ gate. gate.until) gate
 
--- the number of bytes that an end of the link told or saw last, where it has a gate
+-- how many bytes the output took, as its side of the gate told last
 abbrev pub taken_of : Option Gate → Option ℕ
 taken_of gate = option_map (λ gate. gate.taken) gate
 
--- if there is a gate, the number that was seen last reaches its own
+-- for how many turns the input goes on waiting
+abbrev pub turns_of : Option Gate → ℕ
+turns_of None = 0
+turns_of (Some gate) = gate.turns
+
+-- if there is a gate, the number of bytes that was seen last reaches its own
 abbrev pub IsOpen : Option Gate → Type 0
 IsOpen gate = IfSome gate (λ gate. gate.until ≤ gate.taken)
 
--- there is a gate, it was looked at 1,000,000 times, and the number that was seen last doesn't reach its own
+-- there is a gate, the number that was seen last doesn't reach its own, and no turn is left
 abbrev pub IsStuck : Option Gate → Type 0
-IsStuck gate = MatchOption gate ⊥ (λ gate. (gate.taken < gate.until) × (gate.looks ≡ 1000000))
+IsStuck gate = MatchOption gate ⊥ (λ gate. (gate.taken < gate.until) × (gate.turns ≡ 0))

@@ -1,6 +1,6 @@
 ghost use Rattle.std.specs.Prelude.{◌≡◌, ◌<◌, ◌≤◌, IfOk, IsErr, IsOk, OnErr, OnOk, Some, None, [], false, true, is_err, length, refl, take};
 ghost use Rattle.aseba_edge.specs.Counts.{Counts};
-ghost use Rattle.aseba_edge.specs.Gate.{IsOpen, IsStuck, until_of};
+ghost use Rattle.aseba_edge.specs.Gate.{IsOpen, IsStuck, turns_of, until_of};
 ghost use Rattle.aseba_edge.specs.Link.{after_read, is_empty, next_bytes};
 ghost use Rattle.aseba_edge.specs.Plan.{is_named, next_call};
 ghost use Rattle.aseba_edge.specs.Tape.{full};
@@ -14,7 +14,7 @@ use std::alloc::Global;
 
 /// The input of a link in memory. It gives its pieces one by one. Given reads fail, the first being
 /// number 1. One with a gate waits at the end of its bytes until its output has taken a number of
-/// bytes, and fails where that hasn't come after 1,000,000 turns.
+/// bytes, and fails where that hasn't come in 1,000,000 turns.
 #[derive(Drop)]
 pub struct MemoryIn {
     tape: Tape,
@@ -54,6 +54,7 @@ impl MemoryIn {
         ensures open { result ≡ true → is_empty self.old.tape.left ≡ true → IsOpen self.new.gate }
         ensures stuck { result ≡ false → IsStuck self.new.gate }
         ensures until { until_of self.new.gate ≡ until_of self.old.gate }
+        ensures turns { turns_of self.new.gate ≤ turns_of self.old.gate }
         ensures rest { self.new ≡ record self.old { gate = self.new.gate } }
     {
         if !self.tape.is_at_end() {
@@ -104,6 +105,7 @@ impl LinkIn for MemoryIn {
         ensures stuck { is_named self.old.plan.failing (next_call self.old.plan.calls) ≡ false →
             IsErr result → IsStuck self.new.gate }
         ensures until { until_of self.new.gate ≡ until_of self.old.gate }
+        ensures turns { turns_of self.new.gate ≤ turns_of self.old.gate }
     {
         if self.plan.begin() || !self.is_open() {
             self.plan.fail();

@@ -49,8 +49,8 @@ pub struct MemoryLink {
 }
 
 impl MemoryLink {
-    ghost use Rattle.std.specs.Prelude.{IfOk, None, Some};
-    ghost use Rattle.aseba_edge.specs.Gate.{until_of};
+    ghost use Rattle.std.specs.Prelude.{IfOk, None, is_some, true};
+    ghost use Rattle.aseba_edge.specs.Gate.{IsGated};
     ghost use Rattle.aseba_edge.specs.Tape.{full};
 
     /// A link whose input gives these pieces and ends then.
@@ -78,7 +78,7 @@ impl MemoryLink {
     }
 
     /// A link whose input gives these pieces, and ends when its output has taken `until` bytes. It
-    /// fails where that takes 1,000,000 turns.
+    /// fails where that hasn't come in 1,000,000 turns.
     pub fn gated(
         alloc: Global,
         script: LinkScript,
@@ -92,8 +92,8 @@ impl MemoryLink {
             record { failing = script.failing_reads; calls = 0; faults = 0 }) }
         ensures puts { IfOk result (λ link. link.output.sink.plan ≡
             record { failing = script.failing_puts; calls = 0; faults = 0 }) }
-        ensures until { IfOk result (λ link.
-            (until_of link.input.gate ≡ Some until) × (until_of link.output.gate ≡ Some until)) }
+        ensures gate { IfOk result (λ link. IsGated until 1000000 link.input.gate) }
+        ensures tells { IfOk result (λ link. is_some link.output.gate ≡ true) }
     {
         let LinkScript {
             mark,

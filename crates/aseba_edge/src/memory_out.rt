@@ -1,6 +1,6 @@
 ghost use Rattle.std.specs.Prelude.{◌≡◌, IfErr, IfOk, OnOk, Some, [], is_err, option_map, refl, vec_len};
 ghost use Rattle.aseba_edge.specs.Counts.{Counts};
-ghost use Rattle.aseba_edge.specs.Gate.{taken_of, until_of};
+ghost use Rattle.aseba_edge.specs.Gate.{taken_of};
 ghost use Rattle.aseba_edge.specs.MemorySink.{put_answer};
 ghost use Rattle.aseba_edge.specs.Sink.{Took, TookFewer};
 
@@ -69,7 +69,6 @@ impl LinkOut for MemoryOut {
         ensures answer { result ≡ put_answer self.old.sink piece.now }
         ensures told { taken_of self.new.gate ≡
             option_map (λ _. vec_len self.new.sink.bytes) self.old.gate }
-        ensures until { until_of self.new.gate ≡ until_of self.old.gate }
     {
         let answer = self.sink.put(piece);
         if let Some(gate) = &mut self.gate {

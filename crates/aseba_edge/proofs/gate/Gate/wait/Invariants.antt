@@ -1,9 +1,8 @@
-use Rattle.std.proofs.Common.{◌≡◌, ◌<◌, ◌≤◌, ◌-◌}
+use Rattle.std.proofs.Common.{◌≡◌, ◌≤◌}
 use Rattle.aseba_edge.proofs.gate.Gate.wait.Given as goal
 
--- every look so far found the gate closed
 abbrev pub invariant-loop-self : goal.invariant-loop-self
-invariant-loop-self l = (l.self.until ≡ l.fn.self.until) × (l.self.looks ≤ 1000000) × (0 < l.self.looks → l.self.taken < l.self.until)
+invariant-loop-self l = (l.self.until ≡ l.fn.self.until) × (l.self.turns ≤ l.fn.self.turns)
 
 abbrev pub decreases-loop-self : goal.decreases-loop-self
-decreases-loop-self l = 1000000 - l.self.looks
+decreases-loop-self l = l.self.turns
