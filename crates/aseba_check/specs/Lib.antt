@@ -1,0 +1,17 @@
+pub mod Accepted
+pub mod Counted
+pub mod CountedNumbers
+pub mod CountedParts
+pub mod CountedPlaces
+pub mod CountedStatements
+pub mod Cycles
+pub mod Declarations
+pub mod Fits
+pub mod Looked
+pub mod Parts
+pub mod Places
+pub mod Refused
+pub mod Starts
+pub mod Statements
+pub mod Told
+pub mod Walk

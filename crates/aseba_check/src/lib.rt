@@ -1,0 +1,32 @@
+//! Whether a source keeps the rules of the language in its project, and how large its plain code is.
+#![tactic(auto)]
+
+mod calls;
+mod checked;
+mod checking;
+mod counting;
+mod declarations;
+mod error;
+mod expressions;
+mod facts;
+mod far;
+mod fault;
+mod layout;
+mod order;
+mod parts;
+mod reach;
+mod recursion;
+mod rules;
+mod sizes;
+mod statements;
+mod sub_calls;
+mod table;
+mod world;
+
+pub use checked::{Checked, Placed};
+pub use checking::check;
+pub use counting::{Numbers, numbers};
+pub use error::CheckError;
+
+#[cfg(test)]
+mod tests;
