@@ -1,0 +1,52 @@
+-- The program of a sound source of built forms runs as the source means.
+use Rattle.std.proofs.Common.{◌≡◌, sym, subst, ℕ, ◌≤◌, List, length, map, arith}
+use Rattle.std.proofs.lemmas.List.{length-map}
+use Rattle.aseba_tree.specs.Code.{Project, Source}
+use Rattle.aseba_tree.specs.Layout.{layout}
+use Rattle.aseba_tree.specs.State as tree
+use Rattle.aseba_codegen.specs.declared.coded.Coded.{Coded}
+use Rattle.aseba_codegen.specs.declared.image.Image.{Image}
+use Rattle.aseba_codegen.specs.Words.{core_code}
+use Rattle.aseba_codegen.proofs.Lengths.{code-long}
+use Rattle.aseba_check.specs.declared.checked.Placed.{Placed}
+use Rattle.aseba_compile.specs.declared.refusal.Refusal.{Refusal}
+use Rattle.aseba_compile.specs.declared.refusal.Refusal.TheVariants.{Lex, Syntax, Mem}
+use Rattle.aseba_check.specs.Places.{placed_view}
+use Rattle.aseba_compile.specs.Compiled.{IsProgram, IsRefused}
+use Rattle.aseba_compile.specs.Reading.{IsOnlyTree, IsTextRefused}
+use Rattle.aseba_compile.specs.Straight.{straight_core}
+use Rattle.aseba_compile.specs.StraightRun.{Fits, straight_words}
+use Rattle.aseba_compile.specs.StraightWords.{IsStraightImage, IsTreeRefused}
+use Rattle.aseba_compile.proofs.StraightCore.{core-shape, cells-fit}
+use Rattle.aseba_compile.proofs.StraightSound.{fits-straight}
+use Rattle.aseba_compile.proofs.StraightWords.{source_runs}
+
+words-fit : (program : tree.Program) → Fits program → length (straight_words program) ≤ program.project.node.code
+words-fit program fits =
+    let core = straight_core program in
+    let few = (core-shape program (fits-straight program fits) (cells-fit program fits.sound)).has_size in
+    omega (arith, length-map {A = Coded} {B = ℕ} (core_code program.project core) (λ c. c.word), code-long program.project core, few, fits.code)
+
+pub program-is : (program : tree.Program) (image : Image) (places : List Placed) → IsStraightImage program image → map placed_view places ≡ layout program → IsProgram program (record { image = image; places = places })
+program-is program image places is laid = record {
+  sound = is.fits.sound;
+  built = is.fits.built;
+  fits = subst (λ (ws : List ℕ). length ws ≤ program.project.node.code) (sym is.words) (words-fit program is.fits);
+  places = laid;
+  cells = is.cells;
+  runs = λ n. rw (is.words, is.lines) (source_runs program n is.fits);
+}
+
+-- a refusal of a text or of its tree
+pub text-refused : (project : Project) (text : List ℕ) (refusal : Refusal) → IsTextRefused project text refusal → IsRefused project text refusal
+text-refused project text (Lex error) h = h
+text-refused project text (Syntax error) h = h
+text-refused project text Mem h = tt
+text-refused project text refusal h = absurd h
+
+pub tree-refused : (project : Project) (text : List ℕ) (source : Source) (refusal : Refusal) → IsOnlyTree project text source → IsTreeRefused (record { project = project; source = source }) refusal
+    → IsRefused project text refusal
+tree-refused project text source (Lex error) only h = absurd h
+tree-refused project text source (Syntax error) only h = absurd h
+tree-refused project text source Mem only h = tt
+tree-refused project text source refusal only h = record { source = source; only = only; holds = h }

@@ -1,0 +1,129 @@
+-- What is made of a source is what it is.
+use Rattle.std.proofs.Common.{◌≡◌, refl, sym, ◌∙◌, ap, ℕ, ◌+◌, ◌≤◌, Bool, true, false, ◌&&◌, not, List, [], ◌∷◌, ◌++◌, arith, Option, Some, None, length, map}
+use Rattle.std.specs.Prelude.{sum_by, filter, filter_map, Result, Ok, Err}
+use Rattle.std.specs.List.{list_all}
+use Rattle.std.proofs.lemmas.List.Folds.{list_all-map}
+use Rattle.aseba_tree.specs.declared.decl.Decl as code_decl
+use Rattle.aseba_tree.specs.declared.stmt.Stmt as code_stmt
+use Rattle.aseba_tree.specs.declared.source.Source.{Source}
+use Rattle.aseba_tree.specs.declared.source.Handler as code_handler
+use Rattle.aseba_tree.specs.declared.project.Project.{Project}
+use Rattle.aseba_tree.specs.declared.core_tree.Core.{Core}
+use Rattle.aseba_tree.specs.Inside.{InsideProject}
+use Rattle.aseba_tree.specs.Code.{Name, Const, Decl, Expr, Handler, Stmts}
+use Rattle.aseba_tree.specs.View.{const_view, decl_view, stmt_view, stmts_of, handler_view, project_view, source_view, core_view}
+use Rattle.aseba_tree.specs.View as view
+use Rattle.aseba_tree.specs.State.{Program, assignment, in_front, init_code}
+use Rattle.aseba_tree.specs.Layout.{variables, layout, cells_of_variables}
+use Rattle.aseba_tree.specs.Shape.{IsTree}
+use Rattle.aseba_tree.specs.Soundness.{Sound}
+use Rattle.aseba_tree.specs.Numbers.{source_words, source_depth, stmts_depth, part_words, depth_of_sub, greatest}
+use Rattle.aseba_codegen.specs.Agrees as machine
+use Rattle.aseba_check.specs.declared.checked.Placed.{Placed}
+use Rattle.aseba_compile.specs.declared.refusal.Refusal.{Refusal}
+use Rattle.aseba_compile.specs.declared.refusal.Refusal.TheVariants.{NotBuilt, Mem}
+use Rattle.aseba_check.specs.Places.{placed_view}
+use Rattle.aseba_check.specs.Refused.{program_in}
+use Rattle.aseba_compile.specs.Straight.{any, is_sum, has_no_parts, has_only_built_forms, is_straight_stmt, are_straight, is_cell}
+use Rattle.aseba_compile.specs.StraightRead.{nothing, with_constants, with_places, are_cells, is_built_value, no_parts, has_built_forms_in, source_meanings, values_in, stmts_in, init_in, stmt_words, deepest_in, IsBuiltCore, IsCoreIn}
+use Rattle.aseba_compile.specs.StraightRun.{HasCellConstants}
+use Rattle.aseba_compile.specs.StraightAnswer.{IsStraightAnswer}
+use Rattle.aseba_compile.proofs.StraightMeanings.{names-known, cell-same}
+use Rattle.aseba_compile.proofs.StraightShape.{IsStraight}
+use Rattle.aseba_compile.proofs.StraightSound.{straight-of}
+use Rattle.aseba_compile.proofs.StraightCompiled.{sizes-inside}
+use Rattle.aseba_compile.proofs.StraightCore as cores
+use Rattle.aseba_compile.proofs.StraightBuilt.{source_known, core_list, init-listed, listed, list-words, list-depth}
+
+parts-same : (hs : List code_handler.Handler) → no_parts hs ≡ has_no_parts (map handler_view hs)
+parts-same [] = refl
+parts-same (h ∷ hs) = refl
+
+read-known : (project : Project) (source : Source) (places : List Placed) → map placed_view places ≡ layout (program_in project source) → source_meanings project places ≡ source_known (program_in project source)
+read-known project source places e = ap (λ ps. with_places (with_constants nothing project.consts) ps) e ∙ names-known project.consts (variables (program_in project source))
+
+-- Forms
+
+all-listed : (cells : Name → Bool) (ss : List code_stmt.Stmt) → list_all (λ s. is_straight_stmt any cells any (stmt_view s)) ss ≡ are_straight any cells any (stmts_of (map stmt_view ss))
+all-listed cells [] = refl
+all-listed cells (s ∷ ss) = ap (λ b. is_straight_stmt any cells any (stmt_view s) && b) (all-listed cells ss)
+
+regrouped : (x a b r : Bool) → (a && b) ≡ r → (x && a && b) ≡ (x && r)
+regrouped true a b r e = e
+regrouped false a b r e = refl
+
+value-form : (cells : Name → Bool) (d : Decl) (ds : List Decl) (init : Stmts) (value : Option Expr) (a b : Bool) → d.value ≡ value → (a && b) ≡ are_straight any cells any (in_front (filter_map assignment ds) init)
+    → (is_built_value cells d && a && b) ≡ are_straight any cells any (in_front (filter_map assignment (d ∷ ds)) init)
+value-form cells d ds init None a b v e = rw v e
+value-form cells d ds init (Some i) a b v e = rw v (regrouped (cells d.name && is_sum any i) a b (are_straight any cells any (in_front (filter_map assignment ds) init)) e)
+
+forms-same : (cells : Name → Bool) (ds : List code_decl.Decl) (ss : List code_stmt.Stmt)
+    → (list_all (λ d. is_built_value cells (decl_view d)) ds && list_all (λ s. is_straight_stmt any cells any (stmt_view s)) ss) ≡ are_straight any cells any (in_front (filter_map assignment (map decl_view ds)) (stmts_of (map stmt_view ss)))
+forms-same cells [] ss = all-listed cells ss
+forms-same cells (d ∷ ds) ss =
+    value-form cells (decl_view d) (map decl_view ds) (stmts_of (map stmt_view ss)) (decl_view d).value (list_all (λ d. is_built_value cells (decl_view d)) ds) (list_all (λ s. is_straight_stmt any cells any (stmt_view s)) ss) refl (forms-same cells ds ss)
+
+read-forms : (project : Project) (source : Source) (places : List Placed) → map placed_view places ≡ layout (program_in project source)
+    → has_built_forms_in (source_meanings project places) source ≡ has_only_built_forms (program_in project source)
+read-forms project source places e =
+    let program = program_in project source in
+    let cells = is_cell (variables program) in
+    ap (λ m. has_built_forms_in m source) (read-known project source places e)
+    ∙ ap (λ f. list_all (λ d. is_built_value f (decl_view d)) source.vars && list_all (λ s. is_straight_stmt any f any (stmt_view s)) source.init && no_parts source.parts) (cell-same program.project.consts (variables program))
+    ∙ ap (λ b. b && no_parts source.parts) (forms-same cells source.vars source.init)
+    ∙ ap (λ b. are_straight any cells any (init_code program.source) && b) (parts-same source.parts)
+
+read-constants : (project : Project) → are_cells project.consts ≡ true → HasCellConstants (project_view project)
+read-constants project e = list_all-map (λ (c : Const). machine.is_cell c.value) const_view project.consts ∙ e
+
+-- Statements and numbers
+
+read-init : (project : Project) (source : Source) (places : List Placed) → map placed_view places ≡ layout (program_in project source) → IsStraight (program_in project source) → length project.events ≤ 65535
+    → init_in (source_meanings project places) project source ≡ core_list (program_in project source) (init_code (source_view source))
+read-init project source places e is few_events =
+    let program = program_in project source in
+    ap (λ m. values_in m source.vars ++ stmts_in project.events m source.init) (read-known project source places e)
+    ∙ init-listed program project.events source.vars source.init refl few_events is.init
+
+read-words : (program : Program) → IsStraight program → sum_by stmt_words (core_list program (init_code program.source)) + 4 ≡ source_words program
+read-words program is =
+    let more = cores.all-counted program (init_code program.source) is.constants is.init in
+    let words = list-words program (init_code program.source) is.init in
+    let no_words : sum_by (part_words program) program.source.parts ≡ 0 = ap (sum_by (part_words program)) is.parts in
+    let no_entries : length (filter (λ h. not h.is_sub) program.source.parts) ≡ 0 = ap (λ ps. length (filter (λ (h : Handler). not h.is_sub) ps)) is.parts in
+    omega (arith, more.words, words, no_words, no_entries)
+
+read-depth : (program : Program) → IsStraight program → deepest_in 0 (core_list program (init_code program.source)) ≡ source_depth program
+read-depth program is =
+    let more = (cores.all-counted program (init_code program.source) is.constants is.init).depth (λ n. 0) (depth_of_sub program) in
+    let deep = list-depth program (init_code program.source) 0 is.init in
+    let none : greatest (map (λ h. stmts_depth program (depth_of_sub program) h.body) (filter (λ h. not h.is_sub) program.source.parts)) ≡ 0 =
+    ap (λ ps. greatest (map (λ (h : Handler). stmts_depth program (depth_of_sub program) h.body) (filter (λ (h : Handler). not h.is_sub) ps))) is.parts in
+    omega (arith, more, deep, none)
+
+-- what a source is whose core is asked for
+pub record IsAsked (project : Project) (source : Source) (places : List Placed) (cells : ℕ) : Type 0 where
+  pub inside : InsideProject project
+  pub is_tree : IsTree (source_view source)
+  pub sound : Sound (program_in project source)
+  pub places_are : map placed_view places ≡ layout (program_in project source)
+  pub cells_are : cells ≡ cells_of_variables (program_in project source)
+
+built : (project : Project) (source : Source) (places : List Placed) (cells : ℕ) (core : Core) → IsAsked project source places cells → IsBuiltCore project source places cells core → IsStraightAnswer (program_in project source) (Ok core)
+built project source places cells core asked b =
+    let program = program_in project source in
+    let forms = sym (read-forms project source places asked.places_are) ∙ b.built in
+    let constants = read-constants project b.constants in
+    let is = straight-of program (sizes-inside project.node.variables asked.inside.node.variables.each.each) asked.is_tree asked.sound forms constants in
+    let few_events : length project.events ≤ 65535 = let most = asked.inside.events.few in omega arith in
+    let init = read-init project source places asked.places_are is few_events in
+    let listed_is = ap view.core_stmts_of (b.init ∙ init) ∙ listed program (init_code program.source) in
+    let size = b.size ∙ ap (λ t. sum_by stmt_words t + 4) init ∙ read-words program is in
+    let depth = b.deep ∙ ap (deepest_in 0) init ∙ read-depth program is in
+    (forms, constants, rw (listed_is, b.parts, b.cells_are ∙ asked.cells_are, b.room, size, depth) refl)
+
+pub answered : (project : Project) (source : Source) (places : List Placed) (cells : ℕ) (r : Result Core Refusal) → IsAsked project source places cells → IsCoreIn project source places cells r → IsStraightAnswer (program_in project source) r
+answered project source places cells (Ok core) asked h = built project source places cells core asked h
+answered project source places cells (Err NotBuilt) asked h = sym (read-forms project source places asked.places_are) ∙ h
+answered project source places cells (Err Mem) asked h = tt
+answered project source places cells (Err refusal) asked h = absurd h

@@ -1,0 +1,6 @@
+use Rattle.aseba_check.specs.Refused.{program_in}
+use Rattle.aseba_compile.proofs.Programs.{program-is}
+use Rattle.aseba_compile.proofs.passes.compile_checked.Goals as goal
+
+pub returns-in-Ok-clause-program : goal.returns-in-Ok-clause-program
+returns-in-Ok-clause-program c = program-is (program_in c.args.project.now c.args.source.now) c.in-Ok.image c.args.places c.in-Ok.ensures c.requires.places

@@ -1,0 +1,40 @@
+-- What the compiler answers: a program that runs as the text means, or why there is none.
+use Rattle.std.specs.Prelude.{◌≡◌, ℕ, ◌≤◌, true, List, length, map}
+use Rattle.aseba_tree.specs.Code.{Project, Source}
+use Rattle.aseba_tree.specs.State as tree
+use Rattle.aseba_tree.specs.Layout.{layout, cells_of_variables}
+use Rattle.aseba_tree.specs.Soundness.{Sound}
+use Rattle.aseba_check.specs.Places.{placed_view}
+use Rattle.aseba_compile.specs.declared.program.Program.{Program}
+use Rattle.aseba_compile.specs.declared.refusal.Refusal.{Refusal}
+use Rattle.aseba_compile.specs.declared.refusal.Refusal.TheVariants.{Lex, Syntax, Mem}
+use Rattle.aseba_compile.specs.Reading.{IsOnlyTree, IsTextRefused}
+use Rattle.aseba_compile.specs.Straight.{has_only_built_forms}
+use Rattle.aseba_compile.specs.StraightRun.{RunsAsMeant}
+use Rattle.aseba_compile.specs.StraightWords.{IsTreeRefused}
+
+-- A program of a sound source all of whose forms are compiled: its words fit the node, its variables lie in the layout, and however long it runs, it runs as the source means.
+pub record IsProgram (source : tree.Program) (program : Program) : Type 0 where
+  pub sound : Sound source
+  pub built : has_only_built_forms source ≡ true
+  pub fits : length program.image.words ≤ source.project.node.code
+  pub places : map placed_view program.places ≡ layout source
+  pub cells : program.image.temp_start ≡ cells_of_variables source
+  pub runs : (n : ℕ) → RunsAsMeant source program.image.words program.image.lines n
+
+-- something holds of the one tree that a text spells
+pub record OfOnlyTree (project : Project) (text : List ℕ) (P : tree.Program → Type 0) : Type 0 where
+  pub source : Source
+  pub only : IsOnlyTree project text source
+  pub holds : P (record { project = project; source = source })
+
+-- the program of a text
+abbrev pub IsCompiled : Project → List ℕ → Program → Type 0
+IsCompiled project text program = OfOnlyTree project text (λ source. IsProgram source program)
+
+-- Why a text isn't compiled: it spells no tree, or its one tree has no code.
+abbrev pub IsRefused : Project → List ℕ → Refusal → Type 0
+IsRefused project text (Lex error) = IsTextRefused project text (Lex error)
+IsRefused project text (Syntax error) = IsTextRefused project text (Syntax error)
+IsRefused project text Mem = Unit {0}
+IsRefused project text refusal = OfOnlyTree project text (λ source. IsTreeRefused source refusal)

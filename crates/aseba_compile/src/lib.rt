@@ -1,0 +1,17 @@
+//! The chain of passes from the text of a source to its words. Yet it compiles sources of straight
+//! lines alone.
+#![tactic(auto)]
+
+mod passes;
+mod program;
+mod reading;
+mod refusal;
+mod straight;
+
+pub use passes::compile;
+pub use program::Program;
+pub use refusal::Refusal;
+pub use straight::straight_words_run;
+
+#[cfg(test)]
+mod tests;

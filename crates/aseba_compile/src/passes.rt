@@ -1,0 +1,66 @@
+ghost use Rattle.std.specs.Prelude.{◌≡◌, ◌<◌, map, length, IfOk, IfErr};
+ghost use Rattle.aseba_tree.specs.Inside.{InsideProject};
+ghost use Rattle.aseba_tree.specs.Layout.{layout, cells_of_variables};
+ghost use Rattle.aseba_tree.specs.Shape.{IsTree};
+ghost use Rattle.aseba_tree.specs.Soundness.{Sound};
+ghost use Rattle.aseba_tree.specs.View.{project_view, source_view};
+ghost use Rattle.aseba_check.specs.Places.{placed_view};
+ghost use Rattle.aseba_check.specs.Refused.{program_in};
+ghost use Rattle.aseba_compile.specs.Compiled.{IsCompiled, IsProgram, IsRefused};
+ghost use Rattle.aseba_compile.specs.StraightWords.{IsTreeRefused};
+
+use crate::program::Program;
+use crate::reading::read;
+use crate::refusal::Refusal;
+use crate::straight::straight_image;
+use aseba_check::{Checked, Placed, check};
+use aseba_tree::{Project, Source};
+use aseba_words::List;
+use std::alloc::Global;
+
+/// Compiles the text of a source for the node of a project. The refusals tell where the text is no
+/// program, or what it needs and the node doesn't have.
+pub fn compile(alloc: Global, text: &[u8], project: &Project) -> Result<Program, Refusal>
+    requires inside { InsideProject project.now }
+    requires short { length text.now < 4294967295 }
+    ensures program { IfOk result (IsCompiled (project_view project.now) text.now) }
+    ensures refusal { IfErr result (IsRefused (project_view project.now) text.now) }
+{
+    match read(alloc, project, text) {
+        Ok(source) => compile_tree(alloc, project, &source),
+        Err(refusal) => Err(refusal),
+    }
+}
+
+/// Compiles a tree.
+fn compile_tree(alloc: Global, project: &Project, source: &Source) -> Result<Program, Refusal>
+    requires inside { InsideProject project.now }
+    requires is_tree { IsTree (source_view source.now) }
+    ensures program { IfOk result (IsProgram (program_in project.now source.now)) }
+    ensures refusal { IfErr result (IsTreeRefused (program_in project.now source.now)) }
+{
+    let Checked { places, cells, .. } = check(alloc, source, project)?;
+    compile_checked(alloc, project, source, places, cells)
+}
+
+/// Compiles a sound tree whose variables lie in these places and take so many cells.
+fn compile_checked(
+    alloc: Global,
+    project: &Project,
+    source: &Source,
+    places: List<Placed>,
+    cells: u32,
+) -> Result<Program, Refusal>
+    requires inside { InsideProject project.now }
+    requires is_tree { IsTree (source_view source.now) }
+    requires sound { Sound (program_in project.now source.now) }
+    requires places { map placed_view places ≡ layout (program_in project.now source.now) }
+    requires cells { cells ≡ cells_of_variables (program_in project.now source.now) }
+    ensures program { IfOk result (IsProgram (program_in project.now source.now)) }
+    ensures refusal { IfErr result (IsTreeRefused (program_in project.now source.now)) }
+{
+    match straight_image(alloc, project, source, places.as_slice(), cells) {
+        Ok(image) => Ok(Program { image, places }),
+        Err(refusal) => Err(refusal),
+    }
+}

@@ -1,0 +1,110 @@
+ghost use Rattle.std.specs.Prelude.{◌≡◌, true, map, IfOk, MatchResult};
+ghost use Rattle.aseba_tree.specs.Inside.{InsideProject};
+ghost use Rattle.aseba_tree.specs.Layout.{layout, cells_of_variables};
+ghost use Rattle.aseba_tree.specs.Shape.{IsTree};
+ghost use Rattle.aseba_tree.specs.Soundness.{Sound};
+ghost use Rattle.aseba_tree.specs.View.{core_stmt_view, source_view};
+ghost use Rattle.aseba_check.specs.Places.{placed_view};
+ghost use Rattle.aseba_check.specs.Refused.{program_in};
+ghost use Rattle.aseba_compile.specs.StraightAnswer.{IsStraightAnswer};
+ghost use Rattle.aseba_compile.specs.StraightRead.{are_cells, has_built_forms_in, init_in, IsCoreIn, looked, no_parts, source_meanings};
+
+use crate::refusal::Refusal;
+use crate::straight::elements::{add_stmts, add_values};
+use crate::straight::names::{Names, add_constants, add_places};
+use crate::straight::sizes::{all_words, deepest, sum};
+use crate::straight::statements::{are_built_stmts, are_built_values};
+use aseba_check::Placed;
+use aseba_tree::{Core, CoreStmt, Handler, Project, Source};
+use aseba_words::{List, Mem};
+use std::alloc::Global;
+
+/// What the names of a source mean, by the constants and the places of all variables.
+fn names_of(alloc: Global, project: &Project, places: &[Placed]) -> Result<Names, Mem>
+    ensures names { IfOk result (λ names. looked names ≡ source_meanings project.now places.now) }
+    ensures cells { IfOk result (λ names. are_cells project.now.consts ≡ true) }
+{
+    let mut names = Names::new(alloc);
+    add_constants(alloc, &mut names, project.consts.as_slice())?;
+    add_places(alloc, &mut names, places)?;
+    Ok(names)
+}
+
+fn has_no_parts(parts: &[Handler]) -> bool
+    ensures { result ≡ no_parts parts.now }
+{
+    match parts {
+        [] => true,
+        [_, ..] => false,
+    }
+}
+
+/// Whether a source whose names have these meanings has only forms that are compiled.
+fn has_built_forms(names: &Names, source: &Source) -> bool
+    ensures { result ≡ has_built_forms_in (looked names.now) source.now }
+{
+    are_built_values(names, source.vars.as_slice())
+        && are_built_stmts(names, source.init.as_slice())
+        && has_no_parts(source.parts.as_slice())
+}
+
+/// The statements of a source's core.
+fn init_of(
+    alloc: Global,
+    project: &Project,
+    source: &Source,
+    names: &Names,
+) -> Result<List<CoreStmt>, Mem>
+    ensures { IfOk result (λ init. map core_stmt_view init ≡ init_in (looked names.now) project.now source.now) }
+{
+    let mut init = List::new(alloc);
+    add_values(alloc, names, source.vars.as_slice(), &mut init)?;
+    let events = project.events.as_slice();
+    add_stmts(alloc, events, names, source.init.as_slice(), &mut init)?;
+    Ok(init)
+}
+
+/// The core of a source whose variables lie in these places and take so many cells.
+fn core_in(
+    alloc: Global,
+    project: &Project,
+    source: &Source,
+    places: &[Placed],
+    cells: u32,
+) -> Result<Core, Refusal>
+    ensures { IsCoreIn project.now source.now places.now cells result }
+{
+    let names = names_of(alloc, project, places)?;
+    if !has_built_forms(&names, source) {
+        return Err(Refusal::NotBuilt);
+    }
+    let init = init_of(alloc, project, source, &names)?;
+    let size = sum(all_words(init.as_slice())?, 4)?;
+    let depth = deepest(init.as_slice())?;
+    Ok(Core {
+        init,
+        parts: List::new(alloc),
+        cells,
+        room: 0,
+        size,
+        depth,
+    })
+}
+
+/// The core of a sound source whose variables lie in these places and take so many cells.
+pub fn straight(
+    alloc: Global,
+    project: &Project,
+    source: &Source,
+    places: &[Placed],
+    cells: u32,
+) -> Result<Core, Refusal>
+    requires inside { InsideProject project.now }
+    requires is_tree { IsTree (source_view source.now) }
+    requires sound { Sound (program_in project.now source.now) }
+    requires places { map placed_view places.now ≡ layout (program_in project.now source.now) }
+    requires cells { cells ≡ cells_of_variables (program_in project.now source.now) }
+    ensures { IsStraightAnswer (program_in project.now source.now) result }
+{
+    core_in(alloc, project, source, places, cells)
+}
