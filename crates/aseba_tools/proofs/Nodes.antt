@@ -1,20 +1,15 @@
 -- Named variables lie inside the cells.
-use Rattle.std.proofs.Common.{◌≡◌, ℕ, suc, ◌+◌, ◌-◌, ◌<◌, ◌≤◌, Bool, true, false, not, List, [], ◌∷◌, length, get_or, drop, map, Option, None, Some, IfSome, sum_by, refl, ap, sym, ◌∙◌, subst, arith, cond, codes, add-one, drop-cons, All, option_map, unwrap_or, nat_eq}
-use Rattle.std.specs.List.{find}
+use Rattle.std.proofs.Common.{ℕ, ◌+◌, ◌<◌, ◌≤◌, Bool, true, false, List, [], ◌∷◌, map, Option, None, Some, IfSome, arith, cond, codes, All, option_map, unwrap_or}
 use Rattle.std.specs.Str.{bytes_eq}
 use Rattle.std.proofs.lemmas.List.Sums.{sum_by-cons}
 use Rattle.std.proofs.lemmas.List.Elements.{All-head, All-tail}
 use Rattle.aseba_tree.specs.Inside.{InsideProject, InsideSized, named_cells}
-use Rattle.aseba_tree.specs.Code as tree
 use Rattle.aseba_tree.specs.Layout.{Placed, placed_from}
 use Rattle.aseba_tree.specs.View.{project_view, sized_view}
 use Rattle.aseba_tree.specs.declared.description.Sized.{Sized}
 use Rattle.aseba_tree.specs.declared.project.Project.{Project}
 use Rattle.aseba_vm.specs.State.{NamesInside}
 use Rattle.aseba_codegen.specs.Table.{placed_named, shape_of}
-use Rattle.aseba_tools.specs.declared.node.Place.{Place}
-use Rattle.aseba_tools.specs.Node.{place_of, place_among}
-use Rattle.aseba_tools.specs.SimText.{node_cells}
 
 -- a variable that is found lies inside
 abbrev IsIn : ℕ → Placed → Type 0

@@ -1,35 +1,103 @@
--- What a run of a compiled program wrote, as what `sim` writes for some program.
-use Rattle.std.proofs.Common.{◌≡◌, ℕ, ◌+◌, ◌≤◌, List, [], ◌∷◌, ◌++◌, map, length, sum_by, Option, ap, refl, arith}
+-- What a run of a compiled text wrote is what the text means.
+use Rattle.std.proofs.Common.{◌≡◌, ℕ, suc, ◌+◌, ◌≤◌, List, [], ◌∷◌, ◌++◌, map, drop, length, sum_by, Option, ap, refl, sym, ◌∙◌, arith, length-append}
+use Rattle.std.proofs.lemmas.List.{drop-map, length-map}
 use Rattle.std.proofs.lemmas.List.Sums.{sum_by-cons}
 use Rattle.aseba_edge.specs.Sink.{Took, TookFirst}
-use Rattle.aseba_tree.specs.Line.{lines_text}
-use Rattle.aseba_tree.specs.Layout.{Placed, placed_from}
-use Rattle.aseba_codegen.specs.Table.{table_lines}
-use Rattle.aseba_tree.specs.Code.{Project}
-use Rattle.aseba_tools.specs.Ended.{layout_on, IsSimText, Wrote, WroteFirst}
-use Rattle.aseba_tools.specs.SimText.{place_of, layout_with, node_cells, code_line, sim_text}
-use Rattle.aseba_tools.specs.declared.early.program.Variable.{Variable}
-use Rattle.aseba_tools.proofs.Writing.{took_nothing}
+use Rattle.aseba_tree.specs.Code.{Sized, Project}
+use Rattle.aseba_tree.specs.declared.project.Project as code
+use Rattle.aseba_tree.specs.View.{project_view, sized_view}
+use Rattle.aseba_tree.specs.Line.{sent, began, ignored, dropped, killed, was_set, division, bounds, Line, told, var, end, line_by, lines_text}
+use Rattle.aseba_tree.specs.Layout as tree
+use Rattle.aseba_tree.specs.Layout.{placed_from, layout}
+use Rattle.aseba_tree.specs.State as meaning
+use Rattle.aseba_tree.specs.State.{node_variables, declared}
+use Rattle.aseba_codegen.specs.Table.{layout_of, table_lines}
+use Rattle.aseba_check.specs.declared.checked.Placed.{Placed}
+use Rattle.aseba_compile.specs.declared.program.Program.{Program}
+use Rattle.aseba_check.specs.Places.{placed_view}
+use Rattle.aseba_compile.specs.Compiled.{IsProgram, IsCompiled}
+use Rattle.aseba_tools.specs.Meant.{without_lines, IsMeant, IsMeantOf, Wrote, WroteFirst}
+use Rattle.aseba_tools.specs.SimText.{layout_with, own_places, code_line, told_text, sim_text}
 
--- variables of one cell have as many cells as there are of them
-cells-places : (own : List Variable) → length own ≡ sum_by (λ (v : Placed). v.size) (map place_of own)
-cells-places [] = refl
-cells-places (v ∷ own) = omega (arith, cells-places own, sum_by-cons (λ (p : Placed). p.size) (place_of v) (map place_of own))
+-- Places
 
-layouts : (project : Project) (own : List Variable) → layout_with project own ≡ layout_on project (map place_of own)
-layouts project own = ap (λ n. record { node = placed_from 0 project.node.variables; own = map place_of own; cells = node_cells project + n }) (cells-places own)
+placed-long : (start : ℕ) (vs : List Sized) → length (placed_from start vs) ≡ length vs
+placed-long start [] = refl
+placed-long start (v ∷ vs) = ap suc (placed-long (start + v.size) vs)
 
--- what is written for a program that fits
-pub is_sim_text : (project : Project) (words : List ℕ) (own : List Variable) (ticks : ℕ) → length words ≤ project.node.code → IsSimText project ticks (sim_text project words own ticks)
-is_sim_text project words own ticks h =
-    record { words = words; own = map place_of own; fits = h; text_is = ap (λ l. code_line words ++ lines_text (table_lines project l words [] ticks)) (layouts project own) }
+-- the places behind those of the first variables
+placed-behind : (start : ℕ) (xs ys : List Sized) → drop (length xs) (placed_from start (xs ++ ys)) ≡ placed_from (start + sum_by (λ v. v.size) xs) ys
+placed-behind start [] ys = let same : start ≡ start + 0 = omega arith in ap (λ n. placed_from n ys) same
+placed-behind start (x ∷ xs) ys =
+    let behind : start + x.size + sum_by (λ (v : Sized). v.size) xs ≡ start + sum_by (λ (v : Sized). v.size) (x ∷ xs) = omega (arith, sum_by-cons (λ (v : Sized). v.size) x xs) in
+    placed-behind (start + x.size) xs ys ∙ ap (λ n. placed_from n ys) behind
 
-pub wrote : (project : Project) (words : List ℕ) (own : List Variable) (ticks : ℕ) {before after : Option (List ℕ)} → length words ≤ project.node.code → Took before (sim_text project words own ticks) after → Wrote project ticks before after
-wrote project words own ticks h took = record { text = sim_text project words own ticks; is_sim = is_sim_text project words own ticks h; took = took }
+-- a program has the layout of its source
+layouts : (source : meaning.Program) (program : Program) → IsProgram source program → layout_with source.project program ≡ layout_of source
+layouts source program is =
+    let node = node_variables source.project in
+    let own : map placed_view (own_places source.project program) ≡ placed_from (sum_by (λ v. v.size) node) (declared source) =
+    sym (drop-map placed_view (length source.project.node.variables) program.places) ∙ ap (drop (length source.project.node.variables)) is.places ∙ placed-behind 0 node (declared source)
+    ∙ ap (λ n. placed_from n (declared source)) (let same : 0 + sum_by (λ (v : Sized). v.size) node ≡ sum_by (λ (v : Sized). v.size) node = omega arith in same) in
+    rw (own, is.cells) refl
 
-pub wrote_first : (project : Project) (words : List ℕ) (own : List Variable) (ticks : ℕ) (before after : Option (List ℕ)) → length words ≤ project.node.code → TookFirst before (sim_text project words own ticks) after → WroteFirst project ticks before after
-wrote_first project words own ticks before after h took = record { text = sim_text project words own ticks; is_sim = is_sim_text project words own ticks h; took = took }
+-- there are places of all variables of the node
+node-placed : (source : meaning.Program) (program : Program) → IsProgram source program → length source.project.node.variables ≤ length program.places
+node-placed source program is =
+    let all = length-map {A = Placed} {B = tree.Placed} program.places placed_view in
+    let laid = ap length is.places in
+    let long = placed-long 0 (node_variables source.project ++ declared source) in
+    let parts = length-append (node_variables source.project) (declared source) in
+    omega (arith, all, laid, long, parts)
 
--- nothing was written
-pub wrote_nothing : (project : Project) (ticks : ℕ) (before : Option (List ℕ)) → WroteFirst project ticks before before
-wrote_nothing project ticks before = wrote_first project [] [] ticks before before (omega arith) (took_nothing before (sim_text project [] [] ticks))
+-- Lines
+
+bare : (f : ℕ → ℕ) (x : Line) → line_by (λ line. 0) (line_by f x) ≡ line_by (λ line. 0) x
+bare f (told t k (sent event cells)) = refl
+bare f (told t k (began event)) = refl
+bare f (told t k (ignored event)) = refl
+bare f (told t k (dropped event)) = refl
+bare f (told t k (killed line)) = refl
+bare f (told t k (was_set name)) = refl
+bare f (told t k (division line)) = refl
+bare f (told t k (bounds line size i)) = refl
+bare f (var name cells) = refl
+bare f (end t k) = refl
+
+without-lined : (f : ℕ → ℕ) (xs : List Line) → without_lines (map (line_by f) xs) ≡ without_lines xs
+without-lined f [] = refl
+without-lined f (x ∷ xs) = rw (bare f x, without-lined f xs) refl
+
+-- Texts
+
+-- what is written for a program of a source
+meant : (source : meaning.Program) (program : Program) (ticks : ℕ) → IsProgram source program → IsMeant source ticks (sim_text source.project program ticks)
+meant source program ticks is =
+    let words = program.image.words in
+    let runs = is.runs ticks in
+    record {
+      words = words;
+      fits = is.fits;
+      text_is =
+          ap (λ l. code_line words ++ told_text program.image.lines (table_lines source.project l words [] ticks)) (layouts source program is)
+          ∙ ap (λ t. code_line words ++ lines_text t) runs.lines_same;
+      paced = runs.paced;
+      alike = sym (without-lined _ (table_lines source.project (layout_of source) words [] ticks)) ∙ ap without_lines runs.lines_same;
+    }
+
+meant-of : (project : Project) (text : List ℕ) (program : Program) (ticks : ℕ) → IsCompiled project text program → IsMeantOf project text ticks (sim_text project program ticks)
+meant-of project text program ticks c = record { source = c.source; only = c.only; meant = meant (record { project = project; source = c.source }) program ticks c.holds }
+
+module _ (project : Project) (text : List ℕ) (program : Program) (ticks : ℕ) (before after : Option (List ℕ)) (c : IsCompiled project text program) where
+  pub wrote : Took before (sim_text project program ticks) after → Wrote project text ticks before after
+  wrote took = record { written = sim_text project program ticks; meant = meant-of project text program ticks c; took = took }
+
+  pub wrote_first : TookFirst before (sim_text project program ticks) after → WroteFirst project text ticks before after
+  wrote_first took = record { written = sim_text project program ticks; meant = meant-of project text program ticks c; took = took }
+
+-- a compiled text has places of all variables of the node
+pub node_placed : (project : code.Project) (text : List ℕ) (program : Program) → IsCompiled (project_view project) text program → length project.node.variables ≤ length program.places
+node_placed project text program c =
+    let all = length-map project.node.variables sized_view in
+    let there = node-placed (record { project = project_view project; source = c.source }) program c.holds in
+    omega (arith, all, there)

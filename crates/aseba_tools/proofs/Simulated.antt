@@ -1,26 +1,40 @@
 -- The parts of what `sim` writes, one after the other.
-use Rattle.std.proofs.Common.{◌≡◌, refl, ℕ, List, [], ◌∷◌, ◌++◌, map, ap, sym, ◌∙◌, append_assoc}
+use Rattle.std.proofs.Common.{◌≡◌, refl, ℕ, ℤ, List, [], ◌∷◌, ◌++◌, map, take, drop, ap, sym, ◌∙◌, append_assoc}
 use Rattle.aseba_tree.specs.Code.{Project}
-use Rattle.aseba_tree.specs.Line.{lines_text, end}
+use Rattle.aseba_tree.specs.Layout as tree
+use Rattle.aseba_tree.specs.Line.{line_by, lines_text, var, end}
 use Rattle.aseba_vm.specs.State.{State}
 use Rattle.aseba_codegen.specs.Table.{var_lines}
-use Rattle.aseba_tools.specs.SimText.{place_of, ticks_of, run_text, ending_text, IsAt}
-use Rattle.aseba_tools.specs.declared.early.program.Variable.{Variable}
+use Rattle.aseba_compile.specs.declared.program.Program.{Program}
+use Rattle.aseba_tools.specs.SimText.{layout_with, own_places, ticks_of, told_text, run_text, ending_text, IsAt}
 use Rattle.aseba_tools.specs.declared.lines.Moment.{Moment}
-use Rattle.aseba_tools.proofs.Writing.{lines_text-append}
+use Rattle.aseba_tools.proofs.Writing.{told_text-append}
+
+-- the lines of variables tell no line of the source
+vars-kept : (f : ℕ → ℕ) (cells : List ℤ) (vs : List tree.Placed) → map (line_by f) (var_lines cells vs) ≡ var_lines cells vs
+vars-kept f cells [] = refl
+vars-kept f cells (v ∷ vs) = ap (λ t. var v.name (take v.size (drop v.start cells)) ∷ t) (vars-kept f cells vs)
+
+ending-told : (lines : List ℕ) (vs : List tree.Placed) (cells : List ℤ) (moment : Moment)
+    → lines_text (var_lines cells vs) ++ lines_text (end moment.ticks moment.effects ∷ []) ≡ told_text lines (var_lines cells vs ++ end moment.ticks moment.effects ∷ [])
+ending-told lines vs cells moment =
+    ap (λ t. lines_text t ++ lines_text (end moment.ticks moment.effects ∷ [])) (sym (vars-kept _ cells vs)) ∙ sym (told_text-append lines (var_lines cells vs) (end moment.ticks moment.effects ∷ []))
 
 -- the lines of the ticks, and then what the run leaves
-pub run_parts : (project : Project) (own : List Variable) (ticks : ℕ) (first machine : State) (moment : Moment) → IsAt (ticks_of project own ticks first) moment machine → lines_text (ticks_of project own ticks first).lines ++ ending_text own machine.cells moment ≡ run_text project own ticks first
-run_parts project own ticks first machine moment at =
-    let run = ticks_of project own ticks first in
-    let vars = λ (s : State). var_lines s.cells (map place_of own) in
-    ap (λ t. lines_text run.lines ++ t) (sym (lines_text-append (vars machine) (end moment.ticks moment.effects ∷ [])))
-    ∙ sym (lines_text-append run.lines (vars machine ++ end moment.ticks moment.effects ∷ []))
-    ∙ ap lines_text (sym (append_assoc run.lines (vars machine) (end moment.ticks moment.effects ∷ [])))
-    ∙ (λ i. lines_text (run.lines ++ vars (sym at.machine_is i) ++ end (sym at.ticks i) (sym at.effects i) ∷ []))
+pub run_parts : (project : Project) (program : Program) (ticks : ℕ) (first machine : State) (moment : Moment) → IsAt (ticks_of project (layout_with project program) ticks first) moment machine
+    → told_text program.image.lines (ticks_of project (layout_with project program) ticks first).lines ++ ending_text (own_places project program) machine.cells moment ≡ run_text project program ticks first
+run_parts project program ticks first machine moment at =
+    let layout = layout_with project program in
+    let run = ticks_of project layout ticks first in
+    ap (λ t. told_text program.image.lines run.lines ++ t) (ending-told program.image.lines layout.own machine.cells moment)
+    ∙ sym (told_text-append program.image.lines run.lines (var_lines machine.cells layout.own ++ end moment.ticks moment.effects ∷ []))
+    ∙ ap (told_text program.image.lines) (sym (append_assoc run.lines (var_lines machine.cells layout.own) (end moment.ticks moment.effects ∷ [])))
+    ∙ (λ i. told_text program.image.lines (run.lines ++ var_lines (sym at.machine_is i).cells layout.own ++ end (sym at.ticks i) (sym at.effects i) ∷ []))
 
 -- the lines of the ticks begin what the run tells
-pub run_begins : (project : Project) (own : List Variable) (ticks : ℕ) (first : State) → lines_text (ticks_of project own ticks first).lines ++ ending_text own (ticks_of project own ticks first).machine.cells (record { ticks = (ticks_of project own ticks first).ticks; effects = (ticks_of project own ticks first).effects }) ≡ run_text project own ticks first
-run_begins project own ticks first =
-    run_parts project own ticks first (ticks_of project own ticks first).machine (record { ticks = (ticks_of project own ticks first).ticks; effects = (ticks_of project own ticks first).effects })
-    (record { ticks = refl; effects = refl; machine_is = refl })
+pub run_begins : (project : Project) (program : Program) (ticks : ℕ) (first : State)
+    → let run = ticks_of project (layout_with project program) ticks first in
+    told_text program.image.lines run.lines ++ ending_text (own_places project program) run.machine.cells (record { ticks = run.ticks; effects = run.effects }) ≡ run_text project program ticks first
+run_begins project program ticks first =
+    let run = ticks_of project (layout_with project program) ticks first in
+    run_parts project program ticks first run.machine (record { ticks = run.ticks; effects = run.effects }) (record { ticks = refl; effects = refl; machine_is = refl })

@@ -1,15 +1,11 @@
 -- What a status says of a call of `dump`: why it came, and what was written.
-use Rattle.std.specs.Prelude.{◌≡◌, ℕ, ◌<◌, ◌≤◌, List, [], length, Option, None, Some, IfSome, IsSomeAnd, unwrap_or}
+use Rattle.std.specs.Prelude.{◌≡◌, ℕ, ◌<◌, List, [], length, Option, None, IfSome, IsSomeAnd, unwrap_or}
 use Rattle.aseba_edge.specs.Sink.{Took, TookFirst}
+use Rattle.aseba_tools.specs.FileText.{IsFileText}
 use Rattle.aseba_tools.specs.DumpText.{raw_dump_text}
 use Rattle.aseba_tools.specs.StreamEnd.{IsGoodStream, IsBadAt}
 use Rattle.aseba_tools.specs.declared.status.Status.{Status}
 use Rattle.aseba_tools.specs.declared.status.Status.TheVariants.{Done, Absent, ReadFault, WriteFault, Memory, TooBig, BadFrame}
-
--- these bytes were read: they are the file's, where the files tell what they hold under its name, and no more than are dumped
-pub record IsRead (held : Option (Option (List ℕ))) (bytes : List ℕ) : Type 0 where
-  pub told : IfSome held (λ h. h ≡ Some bytes)
-  pub few : length bytes ≤ 67108864
 
 -- What was written of a file of these bytes: its whole dump where all was done, and where its frames end at a bad length, which is told of
 -- by the status alone; the first bytes of its dump where a write failed or memory didn't suffice.
@@ -27,4 +23,4 @@ Dumped file held before after (Absent name) = (name ≡ file) × IfSome held (λ
 Dumped file held before after (TooBig name) = (name ≡ file) × IfSome held (λ h. IsSomeAnd h (λ bytes. 67108864 < length bytes)) × (after ≡ before)
 Dumped file held before after ReadFault = after ≡ before
 Dumped file held before after Memory = (bytes : List ℕ) × IfSome held (λ h. unwrap_or h [] ≡ bytes) × WroteDump bytes before after Memory
-Dumped file held before after status = (bytes : List ℕ) × IsRead held bytes × WroteDump bytes before after status
+Dumped file held before after status = (bytes : List ℕ) × IsFileText 67108864 held bytes × WroteDump bytes before after status

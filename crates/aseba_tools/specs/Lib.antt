@@ -1,7 +1,9 @@
 pub mod Command
 pub mod DumpText
 pub mod Dumped
+pub mod FileText
 pub mod Ended
+pub mod Meant
 pub mod Node
 pub mod Page
 pub mod ProjectWord

@@ -1,5 +1,5 @@
 -- Which project a word names, or why it names none.
-use Rattle.std.specs.Prelude.{◌≡◌, ◌≢◌, ℕ, ◌+◌, ◌<◌, ◌≤◌, ◌⊎◌, ℤ, Bool, true, false, MatchBool, nat_eq, List, [], ◌∷◌, length, map, take, codes, Option, None, Some, Result, Ok, Err, IfSome, IsSomeAnd}
+use Rattle.std.specs.Prelude.{◌≡◌, ◌≢◌, ℕ, ◌+◌, ◌<◌, ◌⊎◌, ℤ, Bool, true, false, MatchBool, nat_eq, List, length, map, take, codes, Option, None, Result, Err, IfSome, IsSomeAnd}
 use Rattle.std.specs.Str.Lines.{lines}
 use Rattle.std.specs.Cmp.Lexicographic.{pointwise}
 use Rattle.aseba_tree.specs.declared.description.Native.{Native}
@@ -7,6 +7,7 @@ use Rattle.aseba_tree.specs.declared.project.Project.{Project}
 use Rattle.aseba_describe.specs.Grammar.{ProjectText, IsBadLine}
 use Rattle.aseba_describe.specs.Defaults.{default_project}
 use Rattle.aseba_describe.specs.NativeLines.{IsNativeLine}
+use Rattle.aseba_tools.specs.FileText.{IsFileText}
 use Rattle.aseba_tools.specs.declared.status.Status.{Status}
 use Rattle.aseba_tools.specs.declared.status.Status.TheVariants.{Absent, ReadFault, BadProject, Memory, TooBig}
 
@@ -56,14 +57,9 @@ pub record IsOtherNative (text : List ℕ) (line : ℕ) : Type 0 where
 abbrev pub IsToBlame : List ℕ → ℕ → Type 0
 IsToBlame text line = IsBadLine (lines text) line ⊎ IsOtherNative text line
 
--- these bytes were read: they are the file's, where the files tell what they hold, and no more than may be
-pub record IsText (held : Option (Option (List ℕ))) (text : List ℕ) : Type 0 where
-  pub told : IfSome held (λ h. h ≡ Some text)
-  pub few : length text ≤ 1048576
-
 pub record IsFileProject (held : Option (Option (List ℕ))) (p : Project) : Type 0 where
   pub text : List ℕ
-  pub read : IsText held text
+  pub read : IsFileText 1048576 held text
   pub run : IsRunProject text p
 
 -- the project of a word, where the files hold this under it
@@ -73,7 +69,7 @@ IsProject word held p = MatchBool (is_default word) (p ≡ default_project) (IsF
 -- a file's text has this line to blame
 pub record IsBlamed (held : Option (Option (List ℕ))) (line : ℕ) : Type 0 where
   pub text : List ℕ
-  pub read : IsText held text
+  pub read : IsFileText 1048576 held text
   pub blame : IsToBlame text line
 
 -- why a text spells no project that a machine can be made for

@@ -1,25 +1,26 @@
 -- What `sim` writes.
-use Rattle.std.specs.Prelude.{◌≡◌, ℕ, ℤ, ◌+◌, ◌++◌, codes, List, [], ◌∷◌, map, length, sum_by}
+use Rattle.std.specs.Prelude.{◌≡◌, ℕ, ℤ, ◌++◌, codes, List, [], ◌∷◌, drop, map, length, slice_index}
 use Rattle.aseba_tree.specs.Code.{Project}
-use Rattle.aseba_tree.specs.Line.{code_text, lines_text, end}
+use Rattle.aseba_tree.specs.Layout.{placed_from}
+use Rattle.aseba_tree.specs.Line.{Line, line_by, code_text, lines_text, end}
 use Rattle.aseba_vm.specs.State.{State}
-use Rattle.aseba_tree.specs.Layout.{Placed, placed_from}
-use Rattle.aseba_codegen.specs.Table.{Layout}
-use Rattle.aseba_codegen.specs.Table.{Run, ticking, all_ticking, beginning, var_lines, ended_lines, table_lines}
-use Rattle.aseba_tools.specs.declared.early.program.Variable.{Variable}
+use Rattle.aseba_codegen.specs.Table.{Layout, Run, ticking, all_ticking, beginning, var_lines, ended_lines, table_lines}
+use Rattle.aseba_check.specs.declared.checked.Placed.{Placed}
+use Rattle.aseba_compile.specs.declared.program.Program.{Program}
+use Rattle.aseba_check.specs.Places.{placed_view}
 use Rattle.aseba_tools.specs.declared.lines.Moment.{Moment}
 
--- a variable as the layout has it: it has one cell
-abbrev pub place_of : Variable → Placed
-place_of v = record { name = v.name; start = v.address; size = 1 }
+-- the places of a program's variables, which stand behind those of the node
+abbrev pub own_places : Project → Program → List Placed
+own_places project program = drop (length project.node.variables) program.places
 
--- the cells of a node's own variables
-abbrev pub node_cells : Project → ℕ
-node_cells project = sum_by (λ v. v.size) project.node.variables
+-- where the variables of a program lie on the node of a project
+abbrev pub layout_with : Project → Program → Layout
+layout_with project program = record { node = placed_from 0 project.node.variables; own = map placed_view (own_places project program); cells = program.image.temp_start }
 
--- the layout of a program with these variables on the node of a project
-abbrev pub layout_with : Project → List Variable → Layout
-layout_with project own = record { node = placed_from 0 project.node.variables; own = map place_of own; cells = node_cells project + length own }
+-- the text of lines of a machine's run, with the source's line in the stead of a place of the code
+abbrev pub told_text : List ℕ → List Line → List ℕ
+told_text lines told = lines_text (map (line_by (slice_index lines)) told)
 
 -- a run that has told nothing yet, at a moment
 abbrev pub silent : Moment → State → Run
@@ -35,26 +36,27 @@ pub record IsAt (run : Run) (moment : Moment) (machine : State) : Type 0 where
   pub effects : run.effects ≡ moment.effects
   pub machine_is : run.machine ≡ machine
 
--- the run of so many ticks of a machine, with these variables
-abbrev pub ticks_of : Project → List Variable → ℕ → State → Run
-ticks_of project own ticks machine = all_ticking project (layout_with project own) [] ticks (beginning machine)
+-- the run of so many ticks of a machine
+abbrev pub ticks_of : Project → Layout → ℕ → State → Run
+ticks_of project layout ticks machine = all_ticking project layout [] ticks (beginning machine)
 
 -- the last line
 abbrev pub end_text : Moment → List ℕ
 end_text moment = lines_text (end moment.ticks moment.effects ∷ [])
 
 -- the lines of the variables and the last one
-abbrev pub ending_text : List Variable → List ℤ → Moment → List ℕ
-ending_text own cells moment = lines_text (var_lines cells (map place_of own)) ++ end_text moment
+abbrev pub ending_text : List Placed → List ℤ → Moment → List ℕ
+ending_text own cells moment = lines_text (var_lines cells (map placed_view own)) ++ end_text moment
 
 -- what a run of so many ticks tells and leaves
-abbrev pub run_text : Project → List Variable → ℕ → State → List ℕ
-run_text project own ticks machine = lines_text (ended_lines (layout_with project own) (ticks_of project own ticks machine))
+abbrev pub run_text : Project → Program → ℕ → State → List ℕ
+run_text project program ticks machine = told_text program.image.lines (ended_lines (layout_with project program) (ticks_of project (layout_with project program) ticks machine))
 
 -- the line of the words
 abbrev pub code_line : List ℕ → List ℕ
 code_line words = code_text words ++ codes "\n"
 
 -- the line of the words, and then the lines of the machine's run of them
-abbrev pub sim_text : Project → List ℕ → List Variable → ℕ → List ℕ
-sim_text project words own ticks = code_line words ++ lines_text (table_lines project (layout_with project own) words [] ticks)
+abbrev pub sim_text : Project → Program → ℕ → List ℕ
+sim_text project program ticks =
+    code_line program.image.words ++ told_text program.image.lines (table_lines project (layout_with project program) program.image.words [] ticks)

@@ -3,14 +3,12 @@
 
 mod command;
 mod dump;
-mod early;
 mod frames;
 mod lines;
 mod natives;
 mod node;
 mod project;
 mod putting;
-mod refusal;
 mod sim;
 mod source;
 mod status;
@@ -19,7 +17,7 @@ mod text;
 mod top;
 mod unread;
 
-pub use refusal::Refusal;
+pub use aseba_compile::Refusal;
 pub use status::Status;
 pub use top::{Ran, run};
 

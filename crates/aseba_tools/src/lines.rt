@@ -1,15 +1,16 @@
 //! The lines that a run tells, each as a text with its line end.
 
-ghost use Rattle.std.specs.Prelude.{◌≡◌, ◌∷◌, [], ◌++◌, map, take, drop, decimal, codes, IfOk, OnOk};
+ghost use Rattle.std.specs.Prelude.{◌≡◌, ◌∷◌, [], ◌++◌, map, slice_index, take, drop, decimal, codes, IfOk, OnOk};
 ghost use Rattle.std.specs.Fmt.{signed_decimal};
 ghost use Rattle.aseba_tree.specs.Line.{blank_number, blank_cells, event_text, lines_text, told, sent, bounds, division, end};
 ghost use Rattle.aseba_vm.specs.declared.tick.Tick.TheVariants.{Sent};
 ghost use Rattle.aseba_codegen.specs.Table.{event_of, tick_reports, var_lines};
 ghost use Rattle.aseba_tree.specs.View.{project_view};
-ghost use Rattle.aseba_tools.specs.SimText.{code_line, place_of};
+ghost use Rattle.aseba_check.specs.Places.{placed_view};
+ghost use Rattle.aseba_tools.specs.SimText.{code_line, told_text};
 
-use crate::early::Variable;
 use crate::text::Text;
+use aseba_check::Placed;
 use aseba_tree::Project;
 use aseba_vm::Notice;
 use aseba_words::Mem;
@@ -33,15 +34,17 @@ pub fn words_line(alloc: Global, words: &[u16]) -> Result<Text, Mem>
     Ok(text)
 }
 
-/// The line of a notice. A node error has none.
+/// The line of a notice. A node error has none. Where a notice has a place of the code, the line
+/// tells the source line of that place, which `lines` has.
 pub fn notice_line(
     alloc: Global,
     project: &Project,
+    lines: &[u32],
     moment: Moment,
     notice: Notice,
     cells: &[i16],
 ) -> Result<Text, Mem>
-    ensures { IfOk result (λ text. text ≡ lines_text (map (told moment.ticks moment.effects) (tick_reports (project_view project.now) cells.now (Sent notice)))) }
+    ensures { IfOk result (λ text. text ≡ told_text lines.now (map (told moment.ticks moment.effects) (tick_reports (project_view project.now) cells.now (Sent notice)))) }
 {
     match notice {
         Notice::Emit { event, start, len } => emit_line(
@@ -51,20 +54,32 @@ pub fn notice_line(
             event,
             part(cells, start, len),
         ),
-        Notice::Bounds { pc, size, index } => bounds_line(alloc, moment, pc, size, index),
-        Notice::Division { pc } => division_line(alloc, moment, pc),
+        Notice::Bounds { pc, size, index } => {
+            bounds_line(alloc, moment, line_of(lines, pc), size, index)
+        }
+        Notice::Division { pc } => division_line(alloc, moment, line_of(lines, pc)),
         Notice::NodeError { .. } => Ok(Text::new(alloc)),
     }
 }
 
+/// The source line of a place of the code, and 0 behind it.
+fn line_of(lines: &[u32], pc: u16) -> u32
+    ensures { result ≡ slice_index lines.now pc }
+{
+    match lines.get(usize::from(pc)) {
+        Some(line) => *line,
+        None => 0,
+    }
+}
+
 /// The line of a variable with its cells.
-pub fn var_line(alloc: Global, variable: &Variable, cells: &[i16]) -> Result<Text, Mem>
-    ensures { IfOk result (λ text. text ≡ lines_text (var_lines cells.now (place_of variable.now ∷ []))) }
+pub fn var_line(alloc: Global, variable: &Placed, cells: &[i16]) -> Result<Text, Mem>
+    ensures { IfOk result (λ text. text ≡ lines_text (var_lines cells.now (placed_view variable.now ∷ []))) }
 {
     let mut text = Text::new(alloc);
     text.push(b"var ")?;
     text.push(variable.name.as_bytes())?;
-    text.push_cells(part(cells, variable.address, 1))?;
+    text.push_cells(part(cells, variable.start, variable.size))?;
     text.push(b"\n")?;
     Ok(text)
 }
@@ -99,33 +114,33 @@ fn emit_line(
     Ok(text)
 }
 
-fn bounds_line(alloc: Global, moment: Moment, pc: u16, size: u16, index: i16) -> Result<Text, Mem>
-    ensures { IfOk result (λ text. text ≡ lines_text (told moment.ticks moment.effects (bounds pc size index) ∷ [])) }
+fn bounds_line(alloc: Global, moment: Moment, line: u32, size: u16, index: i16) -> Result<Text, Mem>
+    ensures { IfOk result (λ text. text ≡ lines_text (told moment.ticks moment.effects (bounds line size index) ∷ [])) }
 {
     let mut text = moment_text(alloc, moment)?;
     text.push(b"bounds ")?;
-    push_bounds(&mut text, pc, size, index)?;
+    push_bounds(&mut text, line, size, index)?;
     text.push(b"\n")?;
     Ok(text)
 }
 
 /// Adds where an index was out of bounds, the size and the index.
-fn push_bounds(text: &mut Text, pc: u16, size: u16, index: i16) -> Result<(), Mem>
-    ensures { OnOk result (text.new ≡ text.old ++ (decimal pc ++ blank_number size ++ codes " " ++ signed_decimal index)) }
+fn push_bounds(text: &mut Text, line: u32, size: u16, index: i16) -> Result<(), Mem>
+    ensures { OnOk result (text.new ≡ text.old ++ (decimal line ++ blank_number size ++ codes " " ++ signed_decimal index)) }
 {
-    text.push_number(u64::from(pc))?;
+    text.push_number(u64::from(line))?;
     text.push(b" ")?;
     text.push_number(u64::from(size))?;
     text.push(b" ")?;
     text.push_cell(index)
 }
 
-fn division_line(alloc: Global, moment: Moment, pc: u16) -> Result<Text, Mem>
-    ensures { IfOk result (λ text. text ≡ lines_text (told moment.ticks moment.effects (division pc) ∷ [])) }
+fn division_line(alloc: Global, moment: Moment, line: u32) -> Result<Text, Mem>
+    ensures { IfOk result (λ text. text ≡ lines_text (told moment.ticks moment.effects (division line) ∷ [])) }
 {
     let mut text = moment_text(alloc, moment)?;
     text.push(b"division ")?;
-    text.push_number(u64::from(pc))?;
+    text.push_number(u64::from(line))?;
     text.push(b"\n")?;
     Ok(text)
 }

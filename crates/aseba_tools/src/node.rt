@@ -6,7 +6,6 @@ ghost use Rattle.aseba_tree.specs.View.{project_view, sized_view};
 ghost use Rattle.aseba_codegen.specs.Table.{shape_of};
 ghost use Rattle.aseba_vm.specs.State.{NamesInside};
 ghost use Rattle.aseba_tools.specs.Node.{place_among};
-ghost use Rattle.aseba_tools.specs.SimText.{node_cells};
 
 use aseba_tree::{Project, Sized};
 use aseba_vm::Shape;
@@ -64,17 +63,4 @@ pub fn place_named(variables: &[Sized], name: &[u8]) -> Option<Place>
         start += variable.size;
     }
     None
-}
-
-/// The number of cells of a project's named variables. A program's own lie behind them.
-pub fn named_cells(project: &Project) -> u16
-    requires { InsideProject project.now }
-    ensures cells { result ≡ node_cells (project_view project.now) }
-    ensures few { result ≤ project.now.node.cells }
-{
-    let mut cells = 0;
-    for variable in project.node.variables.as_slice() {
-        cells += variable.size;
-    }
-    cells
 }

@@ -6,14 +6,16 @@ ghost use Rattle.aseba_edge.specs.Sink.{Took, TookFirst};
 ghost use Rattle.aseba_tree.specs.Line.{lines_text};
 ghost use Rattle.aseba_codegen.specs.Table.{is_effect, started, var_lines};
 ghost use Rattle.aseba_tools.specs.Unwritten.{is_write_fault};
-ghost use Rattle.aseba_tools.specs.SimText.{after_tick, code_line, end_text, ending_text, layout_with, place_of, run_text, sim_text, ticks_of, IsAt};
+ghost use Rattle.aseba_check.specs.Places.{placed_view};
+ghost use Rattle.aseba_tools.specs.SimText.{after_tick, code_line, end_text, ending_text, layout_with, own_places, run_text, sim_text, ticks_of, told_text, IsAt};
 ghost use Rattle.aseba_tree.specs.Inside.{InsideProject};
 ghost use Rattle.aseba_tree.specs.View.{project_view};
 
-use crate::early::{Program, Variable};
 use crate::lines::{Moment, end_line, notice_line, var_line, words_line};
 use crate::node;
 use crate::putting::{Unwritten, put_text};
+use aseba_check::Placed;
+use aseba_compile::Program;
 use aseba_edge::Sink;
 use aseba_tree::Project;
 use aseba_vm::{Machine, Tick};
@@ -31,47 +33,38 @@ fn effects_of(cells: u64, tick: Tick) -> u64
     }
 }
 
-/// Does one tick and writes its line, if it has one. The node's and the program's variables have so
-/// many cells.
+/// Does one tick and writes its line, if it has one.
 fn tick<S: Sink>(
     alloc: Global,
     machine: &mut Machine,
     project: &Project,
     program: &Program,
-    cells: u64,
     moment: Moment,
     out: &mut S,
 ) -> Result<Moment, Unwritten>
-    requires cells { cells ≡ (layout_with (project_view project.now) program.now.variables.items).cells }
     requires ticks { moment.ticks < 2 ^ 63 }
     requires effects { moment.effects < 2 ^ 63 }
-    ensures next { IfOk result (λ next. IsAt (after_tick (project_view project.now) (layout_with (project_view project.now) program.now.variables.items) moment machine.old) next machine.new) }
-    ensures whole { OnOk result (Took (S.taken out.old) (lines_text (after_tick (project_view project.now) (layout_with (project_view project.now) program.now.variables.items) moment machine.old).lines) (S.taken out.new)) }
-    ensures part { OnErr result (TookFirst (S.taken out.old) (lines_text (after_tick (project_view project.now) (layout_with (project_view project.now) program.now.variables.items) moment machine.old).lines) (S.taken out.new)) }
+    ensures next { IfOk result (λ next. IsAt (after_tick (project_view project.now) (layout_with (project_view project.now) program.now) moment machine.old) next machine.new) }
+    ensures whole { OnOk result (Took (S.taken out.old) (told_text program.now.image.lines (after_tick (project_view project.now) (layout_with (project_view project.now) program.now) moment machine.old).lines) (S.taken out.new)) }
+    ensures part { OnErr result (TookFirst (S.taken out.old) (told_text program.now.image.lines (after_tick (project_view project.now) (layout_with (project_view project.now) program.now) moment machine.old).lines) (S.taken out.new)) }
     ensures count { Counts (is_write_fault result) (S.faults out.old) (S.faults out.new) }
 {
     let answer = machine.tick();
+    let cells = u64::from(program.image.temp_start);
     let effects = moment.effects + effects_of(cells, answer);
     if let Tick::Sent(notice) = answer {
         let now = Moment {
             ticks: moment.ticks,
             effects,
         };
-        let line = notice_line(alloc, project, now, notice, machine.cells())?;
+        let lines = program.image.lines.as_slice();
+        let line = notice_line(alloc, project, lines, now, notice, machine.cells())?;
         put_text(out, &line)?;
     }
     Ok(Moment {
         ticks: moment.ticks + 1,
         effects,
     })
-}
-
-/// The number of cells of the node's and the program's variables.
-fn cells_of(project: &Project, program: &Program) -> u64
-    requires { InsideProject project.now }
-    ensures { result ≡ (layout_with (project_view project.now) program.now.variables.items).cells }
-{
-    u64::from(node::named_cells(project)) + program.variables.len() as u64
 }
 
 /// Does ticks from the first on, and writes their lines.
@@ -84,19 +77,17 @@ fn run_ticks<S: Sink>(
     ticks: u32,
     out: &mut S,
 ) -> Result<Moment, Unwritten>
-    requires { InsideProject project.now }
-    ensures end { IfOk result (λ end. IsAt (ticks_of (project_view project.now) program.now.variables.items ticks machine.old) end machine.new) }
-    ensures whole { OnOk result (Took (S.taken out.old) (lines_text (ticks_of (project_view project.now) program.now.variables.items ticks machine.old).lines) (S.taken out.new)) }
-    ensures part { OnErr result (TookFirst (S.taken out.old) (lines_text (ticks_of (project_view project.now) program.now.variables.items ticks machine.old).lines) (S.taken out.new)) }
+    ensures end { IfOk result (λ end. IsAt (ticks_of (project_view project.now) (layout_with (project_view project.now) program.now) ticks machine.old) end machine.new) }
+    ensures whole { OnOk result (Took (S.taken out.old) (told_text program.now.image.lines (ticks_of (project_view project.now) (layout_with (project_view project.now) program.now) ticks machine.old).lines) (S.taken out.new)) }
+    ensures part { OnErr result (TookFirst (S.taken out.old) (told_text program.now.image.lines (ticks_of (project_view project.now) (layout_with (project_view project.now) program.now) ticks machine.old).lines) (S.taken out.new)) }
     ensures count { Counts (is_write_fault result) (S.faults out.old) (S.faults out.new) }
 {
-    let cells = cells_of(project, program);
     let mut moment = Moment {
         ticks: 0,
         effects: 0,
     };
     for _tick in 0..ticks {
-        moment = tick(alloc, machine, project, program, cells, moment, out)?;
+        moment = tick(alloc, machine, project, program, moment, out)?;
     }
     Ok(moment)
 }
@@ -104,12 +95,12 @@ fn run_ticks<S: Sink>(
 /// Writes the lines of the variables.
 fn put_variables<S: Sink>(
     alloc: Global,
-    variables: &[Variable],
+    variables: &[Placed],
     cells: &[i16],
     out: &mut S,
 ) -> Result<(), Unwritten>
-    ensures whole { OnOk result (Took (S.taken out.old) (lines_text (var_lines cells.now (map place_of variables.now))) (S.taken out.new)) }
-    ensures part { OnErr result (TookFirst (S.taken out.old) (lines_text (var_lines cells.now (map place_of variables.now))) (S.taken out.new)) }
+    ensures whole { OnOk result (Took (S.taken out.old) (lines_text (var_lines cells.now (map placed_view variables.now))) (S.taken out.new)) }
+    ensures part { OnErr result (TookFirst (S.taken out.old) (lines_text (var_lines cells.now (map placed_view variables.now))) (S.taken out.new)) }
     ensures count { Counts (is_write_fault result) (S.faults out.old) (S.faults out.new) }
 {
     for variable in variables {
@@ -122,7 +113,7 @@ fn put_variables<S: Sink>(
 /// Writes the lines of the variables and the last line.
 fn put_ending<S: Sink>(
     alloc: Global,
-    variables: &[Variable],
+    variables: &[Placed],
     cells: &[i16],
     end: Moment,
     out: &mut S,
@@ -157,6 +148,14 @@ fn put_code<S: Sink>(alloc: Global, words: &[u16], out: &mut S) -> Result<(), Un
     put_text(out, &line)
 }
 
+/// The places of the program's own variables.
+fn own_variables<'a>(project: &Project, program: &'a Program) -> &'a [Placed]
+    requires { length project.now.node.variables ≤ length program.now.places }
+    ensures { result.now ≡ own_places (project_view project.now) program.now }
+{
+    &program.places.as_slice()[project.node.variables.as_slice().len()..]
+}
+
 /// Runs a machine for so many ticks, and writes what the run tells and leaves.
 fn put_run<S: Sink>(
     alloc: Global,
@@ -166,19 +165,14 @@ fn put_run<S: Sink>(
     ticks: u32,
     out: &mut S,
 ) -> Result<(), Unwritten>
-    requires { InsideProject project.now }
-    ensures whole { OnOk result (Took (S.taken out.old) (run_text (project_view project.now) program.now.variables.items ticks machine) (S.taken out.new)) }
-    ensures part { OnErr result (TookFirst (S.taken out.old) (run_text (project_view project.now) program.now.variables.items ticks machine) (S.taken out.new)) }
+    requires { length project.now.node.variables ≤ length program.now.places }
+    ensures whole { OnOk result (Took (S.taken out.old) (run_text (project_view project.now) program.now ticks machine) (S.taken out.new)) }
+    ensures part { OnErr result (TookFirst (S.taken out.old) (run_text (project_view project.now) program.now ticks machine) (S.taken out.new)) }
     ensures count { Counts (is_write_fault result) (S.faults out.old) (S.faults out.new) }
 {
     let end = run_ticks(alloc, &mut machine, project, program, ticks, out)?;
-    put_ending(
-        alloc,
-        program.variables.as_slice(),
-        machine.cells(),
-        end,
-        out,
-    )
+    let own = own_variables(project, program);
+    put_ending(alloc, own, machine.cells(), end, out)
 }
 
 /// Runs a program's words on a project's node for so many ticks, and writes the words and what the
@@ -191,13 +185,15 @@ pub fn simulate<S: Sink>(
     out: &mut S,
 ) -> Result<(), Unwritten>
     requires inside { InsideProject project.now }
-    requires fits { length program.now.words.items ≤ project.now.node.code }
-    ensures whole { OnOk result (Took (S.taken out.old) (sim_text (project_view project.now) program.now.words.items program.now.variables.items ticks) (S.taken out.new)) }
-    ensures part { OnErr result (TookFirst (S.taken out.old) (sim_text (project_view project.now) program.now.words.items program.now.variables.items ticks) (S.taken out.new)) }
+    requires fits { length program.now.image.words ≤ project.now.node.code }
+    requires places { length project.now.node.variables ≤ length program.now.places }
+    ensures whole { OnOk result (Took (S.taken out.old) (sim_text (project_view project.now) program.now ticks) (S.taken out.new)) }
+    ensures part { OnErr result (TookFirst (S.taken out.old) (sim_text (project_view project.now) program.now ticks) (S.taken out.new)) }
     ensures count { Counts (is_write_fault result) (S.faults out.old) (S.faults out.new) }
 {
-    let machine = loaded_machine(alloc, project, program.words.as_slice())?;
-    put_code(alloc, program.words.as_slice(), out)?;
+    let words = program.image.words.as_slice();
+    let machine = loaded_machine(alloc, project, words)?;
+    put_code(alloc, words, out)?;
     put_run(alloc, machine, project, program, ticks, out)
 }
 

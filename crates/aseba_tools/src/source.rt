@@ -1,18 +1,18 @@
 //! `sim`: a project and a source are read, and the source is compiled and run.
 
-ghost use Rattle.std.specs.Prelude.{◌≡◌, option_map};
+ghost use Rattle.std.specs.Prelude.{◌≡◌, ◌≤◌, length, option_map};
 ghost use Rattle.aseba_tree.specs.Inside.{InsideProject};
 ghost use Rattle.aseba_tree.specs.View.{project_view};
 ghost use Rattle.aseba_edge.specs.Counts.{Counts};
-ghost use Rattle.aseba_tools.specs.Ended.{Cause, IsOfText, Output, Simulated, is_read_fault, is_write_fault};
+ghost use Rattle.aseba_tools.specs.Ended.{RanSource, Simulated, is_read_fault, is_write_fault};
+ghost use Rattle.aseba_tools.specs.Meant.{RanText};
 
-use crate::early::{NotCompiled, compile};
 use crate::project::named_project;
 use crate::putting::Unwritten;
-use crate::refusal::Refusal;
 use crate::sim::simulate;
 use crate::status::Status;
 use crate::unread::{absent, too_big};
+use aseba_compile::{Refusal, compile};
 use aseba_edge::{FileAnswer, Files, Sink};
 use aseba_tree::Project;
 use std::alloc::Global;
@@ -42,7 +42,6 @@ pub fn sim<F: Files, S: Sink>(
 }
 
 /// Runs a source for so many ticks on a project's node.
-#[tactic(auto, using(crate::proofs::Outputs::wrote_nothing))]
 fn run_source<F: Files, S: Sink>(
     alloc: Global,
     project: &Project,
@@ -52,8 +51,7 @@ fn run_source<F: Files, S: Sink>(
     out: &mut S,
 ) -> Status
     requires { InsideProject project.now }
-    ensures cause { Cause source.now (option_map (λ files. files source.now) (F.contents files.old)) result }
-    ensures output { Output (project_view project.now) ticks (S.taken out.old) (S.taken out.new) result }
+    ensures ran { RanSource (project_view project.now) source.now (option_map (λ files. files source.now) (F.contents files.old)) ticks (S.taken out.old) (S.taken out.new) result }
     ensures read_fault { Counts (is_read_fault result) (F.faults files.old) (F.faults files.new) }
     ensures write_fault { Counts (is_write_fault result) (S.faults out.old) (S.faults out.new) }
     ensures files { F.contents files.new ≡ F.contents files.old }
@@ -75,18 +73,18 @@ fn run_text<S: Sink>(
     ticks: u32,
     out: &mut S,
 ) -> Status
-    requires { InsideProject project.now }
-    ensures cause { IsOfText result }
-    ensures output { Output (project_view project.now) ticks (S.taken out.old) (S.taken out.new) result }
+    requires inside { InsideProject project.now }
+    requires short { length text.now ≤ 1048576 }
+    ensures ran { RanText (project_view project.now) text.now ticks (S.taken out.old) (S.taken out.new) result }
     ensures write_fault { Counts (is_write_fault result) (S.faults out.old) (S.faults out.new) }
 {
-    match compile(alloc, project, text) {
+    match compile(alloc, text, project) {
         Ok(program) => match simulate(alloc, project, &program, ticks, out) {
             Ok(()) => Status::Done,
             Err(Unwritten::WriteFault) => Status::WriteFault,
             Err(Unwritten::Mem) => Status::Memory,
         },
-        Err(NotCompiled::Refused) => Status::Refused(Refusal::NotBuilt),
-        Err(NotCompiled::Mem) => Status::Memory,
+        Err(Refusal::Mem) => Status::Memory,
+        Err(refusal) => Status::Refused(refusal),
     }
 }

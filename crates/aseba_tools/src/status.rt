@@ -1,7 +1,7 @@
 ghost use Rattle.std.specs.Prelude.{◌≡◌};
 ghost use Rattle.aseba_tools.specs.StatusText.{number_of};
 
-use crate::refusal::Refusal;
+use aseba_compile::Refusal;
 use aseba_words::Name;
 
 /// How a call of a tool ended.

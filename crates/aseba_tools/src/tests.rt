@@ -2,6 +2,7 @@ use crate::run;
 use aseba_edge::{MemoryClock, MemoryFile, MemoryFiles, MemorySink, NoDialer};
 use aseba_words::{List, Mem, Name};
 use std::alloc::Global;
+use std::process::Abort;
 use std::test::Fail;
 
 /// What a call answered, and what it wrote.
@@ -98,6 +99,21 @@ fn sources_run(rt: HostRuntime) -> Result<(), Fail> {
             "code 0003 ffff 0003 2000 0800 4023 3023 3022 8003 1001 8003 4023 3023 4000 0000\nvar a 0\nvar b 2047\nend 100 4\n",
         ),
         (
+            "var a[[3]]",
+            "sim|default|x.aseba|5",
+            "code 0003 ffff 0003 0000\nvar a 0 0 0\nend 5 1\n",
+        ),
+        (
+            "emit ping",
+            "sim|default|x.aseba|5",
+            "code 0003 ffff 0003 b000 0000 0000 0000\n0 1 emit ping\nend 5 2\n",
+        ),
+        (
+            "# a comment\nvar a[2] var x = 0x8000",
+            "sim|default|x.aseba|9",
+            "code 0003 ffff 0003 2000 8000 4024 0000\nvar a 0 0\nvar x -32768\nend 9 2\n",
+        ),
+        (
             "var x = 1\nx = x + 1",
             "sim|default|x.aseba|5",
             "code 0003 ffff 0003 1001 4022 3022 1001 8002 4022 0000\nvar x 1\nend 5 1\n",
@@ -111,44 +127,157 @@ fn sources_run(rt: HostRuntime) -> Result<(), Fail> {
     Ok(())
 }
 
-#[test]
-fn other_sources_are_refused(rt: HostRuntime) -> Result<(), Fail> {
-    for text in [
-        "while 1 do\nend\n",
-        "emit ping",
-        "var x = x",
-        "x = 1",
-        "var x var x",
-        "var _id",
-        "var event.args",
-        "var end",
-        "var x = 32768",
-        "var x = 0x10",
-        "var x = 12ab",
-        "var x = -1",
-        "var x = 1 +",
-        "var x x += 1",
-        "var x x == 1",
-        "# a comment",
-        "var x = (1)",
-        "var x = event.args",
-        "x",
-        "var",
-        "var x = 1 var = 2",
-        "var x = 1 x = 2 var y",
-        "\u{e9}",
-    ] {
-        let ran = ran_with(
-            rt.alloc(),
-            "sim|default|x.aseba|9",
-            text.as_bytes(),
-            0,
-            1000,
-        )?;
+/// Each text is refused, and tells so.
+fn all_refused(alloc: Global, rt: &impl Abort, texts: &[(&str, &str)]) -> Result<(), Fail> {
+    for (text, told) in texts {
+        let ran = ran_with(alloc, "sim|default|x.aseba|9", text.as_bytes(), 0, 1000)?;
         assert_eq!(rt; ran.number, 4, "{text}");
         assert_eq!(rt; ran.out.bytes(), b"".as_slice());
-        assert_eq!(rt; ran.err.bytes(), b"aseba: refused NotBuilt\n".as_slice());
+        let told = format!(in alloc; "aseba: refused {told}\n")?;
+        assert_eq!(rt; ran.err.bytes(), told.as_bytes());
     }
+    Ok(())
+}
+
+#[test]
+fn texts_that_are_no_program(rt: HostRuntime) -> Result<(), Fail> {
+    let texts = [
+        ("var end", "1:5 Syntax"),
+        ("var x x == 1", "1:9 Syntax"),
+        ("var x = 1 +", "1:12 Syntax"),
+        ("var x = 1\nx = 2 var y", "2:7 Syntax"),
+        ("emit ping 1", "1:11 Syntax"),
+        ("var x = 32768", "1:9 BadNumber"),
+        ("var x = 12ab", "1:9 BadNumber"),
+        ("var x\n\u{e9}", "2:1 BadByte"),
+        ("var x #* open", "1:7 OpenComment"),
+    ];
+    all_refused(rt.alloc(), &rt, &texts)
+}
+
+#[test]
+fn forms_that_are_not_compiled(rt: HostRuntime) -> Result<(), Fail> {
+    let texts = [
+        ("while 1 do\nend\n", "NotBuilt"),
+        ("var x = -1", "NotBuilt"),
+        ("var x x += 1", "NotBuilt"),
+        ("var a[3] a[0] = 1", "NotBuilt"),
+        ("var a[2] = [1, 2]", "NotBuilt"),
+        ("emit pair [1, 2]", "NotBuilt"),
+        ("onevent ping", "NotBuilt"),
+        ("callsub s sub s return", "NotBuilt"),
+        ("onevent ping callsub a sub a return", "NotBuilt"),
+        ("var a[2] call math.copy(a, [1, 2])", "NotBuilt"),
+    ];
+    all_refused(rt.alloc(), &rt, &texts)
+}
+
+#[test]
+fn faults_of_names(rt: HostRuntime) -> Result<(), Fail> {
+    let texts = [
+        ("var x = x", "1:9 Unknown"),
+        ("x = 1", "1:1 Unknown"),
+        ("var a[nobody]", "1:7 Unknown"),
+        ("var a[2]\na = [1, nobody, 3]", "2:9 Unknown"),
+        ("callsub t\nsub s", "1:9 Unknown"),
+        ("call nothing(1)", "1:6 Unknown"),
+        ("emit nothing", "1:6 Unknown"),
+        ("onevent nothing", "1:9 Unknown"),
+        ("var x var x", "1:11 Duplicate"),
+        ("var x\nvar x[0]", "2:5 Duplicate"),
+        ("var _id", "1:5 Duplicate"),
+        ("onevent ping\nonevent ping", "2:9 Duplicate"),
+        ("sub a\nsub a", "2:5 Duplicate"),
+        ("sub a\ncallsub b\nsub b\ncallsub a", "4:9 Recursion"),
+        (
+            "sub a\ncallsub b\nsub b\ncallsub c\nsub c\ncallsub a",
+            "6:9 Recursion",
+        ),
+        ("onevent ping\ncallsub a\nsub a\ncallsub a", "4:9 Recursion"),
+    ];
+    all_refused(rt.alloc(), &rt, &texts)
+}
+
+#[test]
+fn faults_of_sizes(rt: HostRuntime) -> Result<(), Fail> {
+    let texts = [
+        ("var x = event.args", "1:7 BadSize want 1 got 32"),
+        ("var a[2]\na = [1, 2, 3]", "2:3 BadSize want 2 got 3"),
+        (
+            "var a[2] var b[3]\na = a + b[9]",
+            "2:7 BadSize want 2 got 1",
+        ),
+        ("var a[0]", "1:5 BadSize want 1 got 0"),
+        ("var a[4097]", "1:5 BadSize want 4096 got 4097"),
+        (
+            "var a[2] var b[3]\ncall math.add(a, a, b)",
+            "2:21 BadSize want 2 got 3",
+        ),
+        (
+            "var a[2]\ncall math.copy(a, [1, 2, 3])",
+            "2:19 BadSize want 2 got 3",
+        ),
+        ("emit pair 1", "1:11 EventSize want 2 got 1"),
+        ("var a\ncall math.fill(a)", "2:6 ArgCount want 2 got 1"),
+        ("var a[[1, 2]]", "1:7 NotScalar"),
+        ("var a[2]\nfor a in 1:2 do\nend", "2:5 NotScalar"),
+        ("var a[2]\nif a == 1 then\nend", "2:4 NotScalar"),
+        ("var a[991]", "VariablesFull need 1025 have 1024"),
+    ];
+    all_refused(rt.alloc(), &rt, &texts)
+}
+
+#[test]
+fn faults_of_constants(rt: HostRuntime) -> Result<(), Fail> {
+    let texts = [
+        ("var a[1 + nobody]", "1:7 NotConstant"),
+        ("var x\nvar i\nfor i in x:3 do\nend", "3:10 NotConstant"),
+        ("var a[1 / 0]", "1:9 ConstantDivision"),
+        ("var a[3]\na[1 % 0] = 1", "2:5 ConstantDivision"),
+        ("var i\nfor i in 0:3 step 0 do\nend", "2:19 ZeroStep"),
+        ("var a[3]\na[3] = 1", "2:1 IndexOut size 3 index 3"),
+        ("var a[3]\na[-1] = 1", "2:1 IndexOut size 3 index -1"),
+        ("var a[3]\na[2:1] = 1", "2:1 IndexOut size 3 index 1"),
+        ("var a[3]\nvar x\na[9:x] = 1", "3:1 IndexOut size 3 index 9"),
+    ];
+    all_refused(rt.alloc(), &rt, &texts)
+}
+
+/// A line, and then another so many times.
+fn repeated(alloc: Global, first: &str, line: &str, times: usize) -> Result<String, Mem> {
+    let mut text = String::from_str(alloc, first)?;
+    for _ in 0..times {
+        text.push_str(line)?;
+    }
+    Ok(text)
+}
+
+#[test]
+fn sources_that_are_too_large(rt: HostRuntime) -> Result<(), Fail> {
+    // The node has 2048 words: 3 of the event table, 2 for each assignment, and the end of the code.
+    let full = repeated(rt.alloc(), "var x\n", "x = 1\n", 1022)?;
+    let ran = ran_with(
+        rt.alloc(),
+        "sim|default|x.aseba|0",
+        full.as_bytes(),
+        0,
+        20_000,
+    )?;
+    assert_eq!(rt; ran.number, 0);
+    let mut over = repeated(rt.alloc(), "var x\n", "x = 1\n", 1021)?;
+    over.push_str("x = 2048\n")?;
+    let ran = ran_with(
+        rt.alloc(),
+        "sim|default|x.aseba|0",
+        over.as_bytes(),
+        0,
+        20_000,
+    )?;
+    assert_eq!(rt; ran.number, 4);
+    assert_eq!(rt;
+        ran.err.bytes(),
+        b"aseba: refused CodeFull need 2049 have 2048\n".as_slice()
+    );
     Ok(())
 }
 
@@ -230,6 +359,17 @@ fn a_file_is_the_project(rt: HostRuntime) -> Result<(), Fail> {
     assert_eq!(rt;
         ran.out.bytes(),
         b"code 0003 ffff 0003 3003 4004 3004 1001 8002 4004 0000\nvar x 8\nend 10 3\n".as_slice()
+    );
+    let ran = ran_for(
+        rt.alloc(),
+        "sim|p|x.aseba|10",
+        TINY,
+        b"var x = ten - (1 + ten)",
+    )?;
+    assert_eq!(rt; ran.number, 0);
+    assert_eq!(rt;
+        ran.out.bytes(),
+        b"code 0003 ffff 0003 100a 1001 100a 8002 8003 4004 0000\nvar x -1\nend 10 2\n".as_slice()
     );
     let ran = ran_for(rt.alloc(), "sim|p|x.aseba|10", TINY, b"var ten")?;
     assert_eq!(rt; ran.number, 4);

@@ -1,4 +1,4 @@
-use Rattle.std.proofs.Common.{rules, ◌≡◌, length, refl, arith}
+use Rattle.std.proofs.Common.{rules, arith}
 use Rattle.aseba_tools.specs.ProjectWord.{heading, headings}
 use Rattle.aseba_tools.proofs.Alike.{one_more_same, mapped_at}
 use Rattle.aseba_tools.proofs.natives.first_other.Goals as goal

@@ -1,4 +1,4 @@
-use Rattle.std.proofs.Common.{rules, ◌≡◌, length, arith, IsTrue, false}
+use Rattle.std.proofs.Common.{rules, ◌≡◌, false}
 use Rattle.aseba_tools.proofs.Alike.{same_sizes_more, sizes_stop}
 use Rattle.aseba_tools.proofs.natives.have_same_sizes.Goals as goal
 

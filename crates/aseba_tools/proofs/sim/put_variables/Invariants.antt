@@ -2,12 +2,12 @@ use Rattle.std.proofs.Common.{◌≡◌, List, ℕ, ◌++◌, drop, map}
 use Rattle.aseba_edge.specs.Sink.{Took}
 use Rattle.aseba_tree.specs.Line.{lines_text}
 use Rattle.aseba_codegen.specs.Table.{var_lines}
-use Rattle.aseba_tools.specs.SimText.{place_of}
+use Rattle.aseba_check.specs.Places.{placed_view}
 use Rattle.aseba_tools.proofs.sim.put_variables.Given as goal
 
 -- the text of some variables was written, and with the text of the others it is all of it
 abbrev pub invariant-loop-variable : goal.invariant-loop-variable
 invariant-loop-variable g l =
     ((text : List ℕ) × Took (g.S.Sink.taken l.fn.out) text (g.S.Sink.taken l.out)
-    × (text ++ lines_text (var_lines l.cells (map place_of (drop l.variable-index l.variables))) ≡ lines_text (var_lines l.cells (map place_of l.variables))))
+    × (text ++ lines_text (var_lines l.cells (map placed_view (drop l.variable-index l.variables))) ≡ lines_text (var_lines l.cells (map placed_view l.variables))))
     × (g.S.Sink.faults l.out ≡ g.S.Sink.faults l.fn.out)

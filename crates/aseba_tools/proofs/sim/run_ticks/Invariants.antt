@@ -7,5 +7,5 @@ use Rattle.aseba_tools.proofs.sim.run_ticks.Given as goal
 -- some ticks are done, their lines were written, and no put failed
 abbrev pub invariant-loop-tick : goal.invariant-loop-tick
 invariant-loop-tick g l =
-    InRun (project_view l.project) (layout_with (project_view l.project) l.program.variables.items) l.fn.machine (g.S.Sink.taken l.fn.out) l.ticks l._tick l.moment l.machine (g.S.Sink.taken l.out)
+    InRun l.program.image.lines (project_view l.project) (layout_with (project_view l.project) l.program) l.fn.machine (g.S.Sink.taken l.fn.out) l.ticks l._tick l.moment l.machine (g.S.Sink.taken l.out)
     × (g.S.Sink.faults l.out ≡ g.S.Sink.faults l.fn.out)

@@ -6,16 +6,16 @@ use Rattle.aseba_tools.proofs.sim.simulate.Goals as goal
 pub returns-in_err-put_code-clause-part : goal.returns-in_err-put_code-clause-part
 returns-in_err-put_code-clause-part g c =
     on_err c.from_residual-in_err-put_code.result _
-    (cut_in_first _ (g.S.Sink.taken c.put_code.new.out) (g.S.Sink.taken c.put_code.new.out) _ _ _ refl (rw c.as_slice-2.ensures.value at c.in_err-put_code.ensures.part))
+    (cut_in_first _ (g.S.Sink.taken c.put_code.new.out) (g.S.Sink.taken c.put_code.new.out) _ _ _ refl (rw c.as_slice-words.ensures at c.in_err-put_code.ensures.part))
 
 pub returns-clause-whole : goal.returns-clause-whole
 returns-clause-whole g c =
     on_ok_weaker c.put_run.result
-    (both_taken _ (g.S.Sink.taken c.put_code.new.out) _ _ _ _ refl (rw c.as_slice-2.ensures.value at c.in_ok-put_code.ensures.whole))
-    (rw (c.in_ok-machine.ensures, c.as_slice.ensures.value) at c.put_run.ensures.whole)
+    (both_taken _ (g.S.Sink.taken c.put_code.new.out) _ _ _ _ refl (rw c.as_slice-words.ensures at c.in_ok-put_code.ensures.whole))
+    (rw (c.in_ok-machine.ensures, c.as_slice-words.ensures) at c.put_run.ensures.whole)
 
 pub returns-clause-part : goal.returns-clause-part
 returns-clause-part g c =
     on_err_weaker c.put_run.result
-    (cut_in_second _ (g.S.Sink.taken c.put_code.new.out) _ _ _ _ refl (rw c.as_slice-2.ensures.value at c.in_ok-put_code.ensures.whole))
-    (rw (c.in_ok-machine.ensures, c.as_slice.ensures.value) at c.put_run.ensures.part)
+    (cut_in_second _ (g.S.Sink.taken c.put_code.new.out) _ _ _ _ refl (rw c.as_slice-words.ensures at c.in_ok-put_code.ensures.whole))
+    (rw (c.in_ok-machine.ensures, c.as_slice-words.ensures) at c.put_run.ensures.part)

@@ -1,15 +1,20 @@
+use Rattle.std.proofs.Common.{inr}
 use Rattle.aseba_tree.specs.View.{project_view}
-use Rattle.aseba_tools.proofs.Outputs.{wrote, wrote_first, wrote_nothing}
+use Rattle.aseba_tools.proofs.Outputs.{node_placed, wrote, wrote_first}
 use Rattle.aseba_tools.proofs.source.run_text.Goals as goal
 
-pub returns-in-Ok-simulate-clause-output : goal.returns-in-Ok-simulate-clause-output
-returns-in-Ok-simulate-clause-output g c = wrote (project_view c.args.project.now) _ _ c.args.ticks c.in-Ok.ensures c.in-Ok-simulate.ensures.whole
+pub simulate-requires-clause-places : goal.simulate-requires-clause-places
+simulate-requires-clause-places g c = node_placed c.args.project.now c.args.text.now c.in-Ok.program c.in-Ok.ensures.program
 
-pub returns-in-Err-WriteFault-clause-output : goal.returns-in-Err-WriteFault-clause-output
-returns-in-Err-WriteFault-clause-output g c = wrote_first (project_view c.args.project.now) c.in-Ok.program.words.items c.in-Ok.program.variables.items c.args.ticks _ _ c.in-Ok.ensures c.in-Err-WriteFault.ensures.part
+pub returns-in-Ok-simulate-clause-ran : goal.returns-in-Ok-simulate-clause-ran
+returns-in-Ok-simulate-clause-ran g c =
+    wrote (project_view c.args.project.now) c.args.text.now c.in-Ok.program c.args.ticks (g.S.Sink.taken c.args.out.now) (g.S.Sink.taken c.simulate.new.out) c.in-Ok.ensures.program c.in-Ok-simulate.ensures.whole
 
-pub returns-in-Ok-clause-output : goal.returns-in-Ok-clause-output
-returns-in-Ok-clause-output g c = wrote_first (project_view c.args.project.now) c.in-Ok.program.words.items c.in-Ok.program.variables.items c.args.ticks _ _ c.in-Ok.ensures c.in-Err-Mem-simulate.ensures.part
+pub returns-in-Err-WriteFault-clause-ran : goal.returns-in-Err-WriteFault-clause-ran
+returns-in-Err-WriteFault-clause-ran g c =
+    wrote_first (project_view c.args.project.now) c.args.text.now c.in-Ok.program c.args.ticks (g.S.Sink.taken c.args.out.now) (g.S.Sink.taken c.simulate.new.out) c.in-Ok.ensures.program c.in-Err-WriteFault.ensures.part
 
-pub returns-clause-output : goal.returns-clause-output
-returns-clause-output g c = wrote_nothing (project_view c.args.project.now) c.args.ticks _
+-- memory didn't suffice while the run was written
+pub returns-in-Ok-clause-ran : goal.returns-in-Ok-clause-ran
+returns-in-Ok-clause-ran g c =
+    inr (wrote_first (project_view c.args.project.now) c.args.text.now c.in-Ok.program c.args.ticks (g.S.Sink.taken c.args.out.now) (g.S.Sink.taken c.simulate.new.out) c.in-Ok.ensures.program c.in-Err-Mem-simulate.ensures.part)

@@ -1,0 +1,60 @@
+-- What `sim` is to write for the text of a source, and why it writes nothing.
+use Rattle.std.specs.Prelude.{◌≡◌, ℕ, ◌≤◌, ◌⊎◌, List, [], ◌++◌, length, map, Option}
+use Rattle.aseba_edge.specs.Sink.{Took, TookFirst}
+use Rattle.aseba_tree.specs.Code.{Project, Source}
+use Rattle.aseba_tree.specs.Line.{Line, line_by, lines_text}
+use Rattle.aseba_tree.specs.Lines.{lines_of, Paced}
+use Rattle.aseba_tree.specs.Numbers.{source_weight}
+use Rattle.aseba_tree.specs.State.{Program}
+use Rattle.aseba_codegen.specs.Table.{layout_of, table_lines, table_beats}
+use Rattle.aseba_compile.specs.declared.refusal.Refusal.{Refusal}
+use Rattle.aseba_compile.specs.declared.refusal.Refusal.TheVariants.{Mem}
+use Rattle.aseba_compile.specs.Compiled.{IsRefused}
+use Rattle.aseba_compile.specs.Reading.{IsOnlyTree}
+use Rattle.aseba_tools.specs.SimText.{code_line}
+use Rattle.aseba_tools.specs.declared.status.Status.{Status}
+use Rattle.aseba_tools.specs.declared.status.Status.TheVariants.{Done, Refused, WriteFault, Memory}
+
+-- lines without what they tell of a line of the source
+abbrev pub without_lines : List Line → List Line
+without_lines told = map (line_by (λ line. 0)) told
+
+-- The text of a run: the line of some words that fit the node, and then what the source means, where a step is done at each tick that is an effect of these
+-- words. Such ticks keep the source's pace, and the machine alone, without the source, tells the same of the words, but for lines of the source.
+pub record IsMeant (program : Program) (ticks : ℕ) (text : List ℕ) : Type 0 where
+  pub words : List ℕ
+  pub fits : length words ≤ program.project.node.code
+  pub text_is : text ≡ code_line words ++ lines_text (lines_of program [] (table_beats program.project (layout_of program) words [] ticks))
+  pub paced : Paced (source_weight program) program [] (table_beats program.project (layout_of program) words [] ticks)
+  pub alike : without_lines (table_lines program.project (layout_of program) words [] ticks) ≡ without_lines (lines_of program [] (table_beats program.project (layout_of program) words [] ticks))
+
+-- the text of a run of the one tree that a source's text spells
+pub record IsMeantOf (project : Project) (text : List ℕ) (ticks : ℕ) (written : List ℕ) : Type 0 where
+  pub source : Source
+  pub only : IsOnlyTree project text source
+  pub meant : IsMeant (record { project = project; source = source }) ticks written
+
+-- all of it was written
+pub record Wrote (project : Project) (text : List ℕ) (ticks : ℕ) (before after : Option (List ℕ)) : Type 0 where
+  pub written : List ℕ
+  pub meant : IsMeantOf project text ticks written
+  pub took : Took before written after
+
+-- the first bytes of it were written, and no others
+pub record WroteFirst (project : Project) (text : List ℕ) (ticks : ℕ) (before after : Option (List ℕ)) : Type 0 where
+  pub written : List ℕ
+  pub meant : IsMeantOf project text ticks written
+  pub took : TookFirst before written after
+
+-- a refusal of the text other than want of memory, which has a status of its own
+abbrev pub IsTold : Project → List ℕ → Refusal → Type 0
+IsTold project text Mem = ⊥
+IsTold project text refusal = IsRefused project text refusal
+
+-- How the text of a source was run, by the status. Where memory didn't suffice it may not have been compiled.
+abbrev pub RanText : Project → List ℕ → ℕ → (before after : Option (List ℕ)) → Status → Type 0
+RanText project text ticks before after Done = Wrote project text ticks before after
+RanText project text ticks before after (Refused refusal) = IsTold project text refusal × (after ≡ before)
+RanText project text ticks before after WriteFault = WroteFirst project text ticks before after
+RanText project text ticks before after Memory = (after ≡ before) ⊎ WroteFirst project text ticks before after
+RanText project text ticks before after _ = ⊥
