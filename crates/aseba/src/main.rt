@@ -1,20 +1,43 @@
-//! The program `aseba`: the real files, streams and clock, handed to the tools.
+//! The program `aseba`: the real files, streams and clock, handed to the tools on a thread of their
+//! own.
 #![tactic(auto)]
 
-use aseba_edge::{NoDialer, SystemClock, SystemFiles, WriterSink};
-use aseba_tools::run;
+use aseba_edge::{NoDialer, Sink, SystemClock, SystemFiles, WriterSink};
+use aseba_tools::{Status, run};
 use std::process::ExitCode;
+use std::thread::Builder;
 use std::{env, io};
 
+/// How many bytes of stack the tools have. A source may be one expression of 524,286 operators, each
+/// in the left side of the next, and what reads, copies or drops its tree calls itself as often. Such
+/// a tree was measured to take up to 386 million bytes of stack when it is copied, and 93 million
+/// when it is read and dropped, so this is more than five times what is needed. Memory is only taken
+/// for the part of a stack that is used.
+const STACK: usize = 2_147_483_648;
+
 fn main(rt: HostRuntime) -> ExitCode {
+    let tools = Builder::new().stack_size(STACK);
+    let number = match tools.spawn(&rt, move || run_words(&rt)) {
+        Ok(thread) => thread.join(&rt),
+        Err(_) => {
+            // Where this can't be written either, the status is all that can be told.
+            let _ = WriterSink::new(rt.stderr()).put(b"aseba: out of memory\n");
+            Status::Memory.number()
+        }
+    };
+    ExitCode::from(number)
+}
+
+/// Runs the tools on the program's words, and answers the exit status.
+fn run_words(rt: &HostRuntime) -> u8 {
     let alloc = rt.alloc();
     // Words that can't be read are no command line, as no words are.
-    let words = words(&rt).unwrap_or(Vec::new(alloc));
-    let mut files = SystemFiles::new(&rt);
+    let words = words(rt).unwrap_or(Vec::new(alloc));
+    let mut files = SystemFiles::new(rt);
     let mut dialer = NoDialer::new();
     let mut out = WriterSink::new(rt.stdout());
     let mut err = WriterSink::new(rt.stderr());
-    let mut clock = SystemClock::new(&rt);
+    let mut clock = SystemClock::new(rt);
     let ran = run(
         alloc,
         words.as_slice(),
@@ -24,7 +47,7 @@ fn main(rt: HostRuntime) -> ExitCode {
         &mut err,
         &mut clock,
     );
-    ExitCode::from(ran.status.number())
+    ran.status.number()
 }
 
 /// The words behind the program's name.
