@@ -19,6 +19,7 @@ pub only_tree : (project : Project) (text : List ℕ) (tokens slice : List Token
     → parser.IsTree project slice source → parser.IsDecided project slice end → IsOnlyTree project text source
 only_tree project text tokens slice end source e lexed cut tree decided = record {
   reads = record { tokens = tokens; lexed = lexed; spelled = subst (λ (ts : List Token). Spells project source ts) e tree.spelled };
+  well = subst (λ (ts : List Token). parser.IsNestedWell project ts) e tree.well;
   only = λ (other : Source) (r : Reads project text other).
       let same : r.tokens ≡ slice = cut.one_list r.tokens tokens r.lexed lexed ∙ sym e in
       decided.one_tree other source (subst (λ (ts : List Token). Spells project other ts) same r.spelled) tree.spelled;

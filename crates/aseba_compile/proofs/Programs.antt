@@ -1,5 +1,6 @@
 -- The program of a sound source of built forms runs as the source means.
-use Rattle.std.proofs.Common.{◌≡◌, sym, subst, ℕ, ◌≤◌, List, length, map, arith}
+use Rattle.std.proofs.Common.{◌≡◌, sym, subst, ℕ, ◌<◌, ◌≤◌, List, length, map, arith}
+use Rattle.std.specs.Prelude.{All}
 use Rattle.std.proofs.lemmas.List.{length-map}
 use Rattle.aseba_tree.specs.Code.{Project, Source}
 use Rattle.aseba_tree.specs.Layout.{layout}
@@ -27,11 +28,12 @@ words-fit program fits =
     let few = (core-shape program (fits-straight program fits) (cells-fit program fits.sound)).has_size in
     omega (arith, length-map {A = Coded} {B = ℕ} (core_code program.project core) (λ c. c.word), code-long program.project core, few, fits.code)
 
-pub program-is : (program : tree.Program) (image : Image) (places : List Placed) → IsStraightImage program image → map placed_view places ≡ layout program → IsProgram program (record { image = image; places = places })
-program-is program image places is laid = record {
+pub program-is : (program : tree.Program) (image : Image) (places : List Placed) → IsStraightImage program image → All (λ word. word < 65536) image.words → map placed_view places ≡ layout program → IsProgram program (record { image = image; places = places })
+program-is program image places is words laid = record {
   sound = is.fits.sound;
   built = is.fits.built;
   fits = subst (λ (ws : List ℕ). length ws ≤ program.project.node.code) (sym is.words) (words-fit program is.fits);
+  words = words;
   places = laid;
   cells = is.cells;
   runs = λ n. rw (is.words, is.lines) (source_runs program n is.fits);

@@ -1,5 +1,5 @@
 -- What the compiler answers: a program that runs as the text means, or why there is none.
-use Rattle.std.specs.Prelude.{◌≡◌, ℕ, ◌≤◌, true, List, length, map}
+use Rattle.std.specs.Prelude.{◌≡◌, ℕ, ◌<◌, ◌≤◌, true, All, List, length, map}
 use Rattle.aseba_tree.specs.Code.{Project, Source}
 use Rattle.aseba_tree.specs.State as tree
 use Rattle.aseba_tree.specs.Layout.{layout, cells_of_variables}
@@ -13,11 +13,12 @@ use Rattle.aseba_compile.specs.Straight.{has_only_built_forms}
 use Rattle.aseba_compile.specs.StraightRun.{RunsAsMeant}
 use Rattle.aseba_compile.specs.StraightWords.{IsTreeRefused}
 
--- A program of a sound source all of whose forms are compiled: its words fit the node, its variables lie in the layout, and however long it runs, it runs as the source means.
+-- A program of a sound source all of whose forms are compiled: its words have 16 bits and fit the node, its variables lie in the layout, and however long it runs, it runs as the source means.
 pub record IsProgram (source : tree.Program) (program : Program) : Type 0 where
   pub sound : Sound source
   pub built : has_only_built_forms source ≡ true
   pub fits : length program.image.words ≤ source.project.node.code
+  pub words : All (λ word. word < 65536) program.image.words
   pub places : map placed_view program.places ≡ layout source
   pub cells : program.image.temp_start ≡ cells_of_variables source
   pub runs : (n : ℕ) → RunsAsMeant source program.image.words program.image.lines n

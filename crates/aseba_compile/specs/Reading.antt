@@ -20,9 +20,10 @@ pub record Reads (project : Project) (text : List ℕ) (source : Source) : Type 
   pub lexed : Tokens text tokens
   pub spelled : Spells project source tokens
 
--- the text spells this tree and no other
+-- the text spells this tree and no other, and no token of it is nested too deep
 pub record IsOnlyTree (project : Project) (text : List ℕ) (source : Source) : Type 0 where
   pub reads : Reads project text source
+  pub well : parser.IsNestedWell project reads.tokens
   pub only : (other : Source) → Reads project text other → other ≡ source
 
 -- the error tells where the text is no tokens; want of memory doesn't stand here

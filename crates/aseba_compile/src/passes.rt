@@ -1,4 +1,4 @@
-ghost use Rattle.std.specs.Prelude.{◌≡◌, ◌<◌, map, length, IfOk, IfErr};
+ghost use Rattle.std.specs.Prelude.{◌≡◌, ◌<◌, All, map, length, IfOk, IfErr};
 ghost use Rattle.aseba_tree.specs.Inside.{InsideProject};
 ghost use Rattle.aseba_tree.specs.Layout.{layout, cells_of_variables};
 ghost use Rattle.aseba_tree.specs.Shape.{IsTree};
@@ -60,7 +60,17 @@ fn compile_checked(
     ensures refusal { IfErr result (IsTreeRefused (program_in project.now source.now)) }
 {
     match straight_image(alloc, project, source, places.as_slice(), cells) {
-        Ok(image) => Ok(Program { image, places }),
+        Ok(image) => {
+            are_words(image.words.as_slice());
+            Ok(Program { image, places })
+        }
         Err(refusal) => Err(refusal),
     }
+}
+
+/// Words have 16 bits: it is known where they are seen as such.
+fn are_words(words: &[u16])
+    ensures { All (λ word. word < 65536) words.now }
+{
+    let _words = words;
 }

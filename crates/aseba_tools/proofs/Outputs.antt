@@ -77,6 +77,7 @@ meant source program ticks is =
     let runs = is.runs ticks in
     record {
       words = words;
+      are_words = is.words;
       fits = is.fits;
       text_is =
           ap (λ l. code_line words ++ told_text program.image.lines (table_lines source.project l words [] ticks)) (layouts source program is)
@@ -86,7 +87,7 @@ meant source program ticks is =
     }
 
 meant-of : (project : Project) (text : List ℕ) (program : Program) (ticks : ℕ) → IsCompiled project text program → IsMeantOf project text ticks (sim_text project program ticks)
-meant-of project text program ticks c = record { source = c.source; only = c.only; meant = meant (record { project = project; source = c.source }) program ticks c.holds }
+meant-of project text program ticks c = record { source = c.source; only = c.only; sound = c.holds.sound; built = c.holds.built; meant = meant (record { project = project; source = c.source }) program ticks c.holds }
 
 module _ (project : Project) (text : List ℕ) (program : Program) (ticks : ℕ) (before after : Option (List ℕ)) (c : IsCompiled project text program) where
   pub wrote : Took before (sim_text project program ticks) after → Wrote project text ticks before after

@@ -1,16 +1,18 @@
 -- What `sim` is to write for the text of a source, and why it writes nothing.
-use Rattle.std.specs.Prelude.{◌≡◌, ℕ, ◌≤◌, ◌⊎◌, List, [], ◌++◌, length, map, Option}
+use Rattle.std.specs.Prelude.{◌≡◌, ℕ, ◌<◌, ◌≤◌, true, All, ◌⊎◌, List, [], ◌++◌, length, map, Option}
 use Rattle.aseba_edge.specs.Sink.{Took, TookFirst}
 use Rattle.aseba_tree.specs.Code.{Project, Source}
 use Rattle.aseba_tree.specs.Line.{Line, line_by, lines_text}
 use Rattle.aseba_tree.specs.Lines.{lines_of, Paced}
 use Rattle.aseba_tree.specs.Numbers.{source_weight}
 use Rattle.aseba_tree.specs.State.{Program}
+use Rattle.aseba_tree.specs.Soundness.{Sound}
 use Rattle.aseba_codegen.specs.Table.{layout_of, table_lines, table_beats}
 use Rattle.aseba_compile.specs.declared.refusal.Refusal.{Refusal}
 use Rattle.aseba_compile.specs.declared.refusal.Refusal.TheVariants.{Mem}
 use Rattle.aseba_compile.specs.Compiled.{IsRefused}
 use Rattle.aseba_compile.specs.Reading.{IsOnlyTree}
+use Rattle.aseba_compile.specs.Straight.{has_only_built_forms}
 use Rattle.aseba_tools.specs.SimText.{code_line}
 use Rattle.aseba_tools.specs.declared.status.Status.{Status}
 use Rattle.aseba_tools.specs.declared.status.Status.TheVariants.{Done, Refused, WriteFault, Memory}
@@ -23,15 +25,18 @@ without_lines told = map (line_by (λ line. 0)) told
 -- words. Such ticks keep the source's pace, and the machine alone, without the source, tells the same of the words, but for lines of the source.
 pub record IsMeant (program : Program) (ticks : ℕ) (text : List ℕ) : Type 0 where
   pub words : List ℕ
+  pub are_words : All (λ word. word < 65536) words
   pub fits : length words ≤ program.project.node.code
   pub text_is : text ≡ code_line words ++ lines_text (lines_of program [] (table_beats program.project (layout_of program) words [] ticks))
   pub paced : Paced (source_weight program) program [] (table_beats program.project (layout_of program) words [] ticks)
   pub alike : without_lines (table_lines program.project (layout_of program) words [] ticks) ≡ without_lines (lines_of program [] (table_beats program.project (layout_of program) words [] ticks))
 
--- the text of a run of the one tree that a source's text spells
+-- the text of a run of the one tree that a source's text spells, which is sound and has only forms that are compiled
 pub record IsMeantOf (project : Project) (text : List ℕ) (ticks : ℕ) (written : List ℕ) : Type 0 where
   pub source : Source
   pub only : IsOnlyTree project text source
+  pub sound : Sound (record { project = project; source = source })
+  pub built : has_only_built_forms (record { project = project; source = source }) ≡ true
   pub meant : IsMeant (record { project = project; source = source }) ticks written
 
 -- all of it was written

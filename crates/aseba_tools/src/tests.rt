@@ -371,8 +371,17 @@ fn a_file_is_the_project(rt: HostRuntime) -> Result<(), Fail> {
         ran.out.bytes(),
         b"code 0003 ffff 0003 100a 1001 100a 8002 8003 4004 0000\nvar x -1\nend 10 2\n".as_slice()
     );
-    let ran = ran_for(rt.alloc(), "sim|p|x.aseba|10", TINY, b"var ten")?;
-    assert_eq!(rt; ran.number, 4);
+    for (text, told) in [
+        ("var ten", "aseba: refused 1:5 Duplicate\n"),
+        (
+            "var x = 1 + (1 + (1 + (1 + 1)))",
+            "aseba: refused StackFull need 5 have 4\n",
+        ),
+    ] {
+        let ran = ran_for(rt.alloc(), "sim|p|x.aseba|10", TINY, text.as_bytes())?;
+        assert_eq!(rt; ran.number, 4);
+        assert_eq!(rt; ran.err.bytes(), told.as_bytes());
+    }
     Ok(())
 }
 
