@@ -1,0 +1,5 @@
+//! Tests across the passes: sources with what is told of them. It offers nothing.
+#![tactic(auto)]
+
+#[cfg(test)]
+mod faults;
