@@ -11,4 +11,5 @@ pub mod Rows
 pub mod Runs
 mod TickRows
 mod Values
+pub mod VarLines
 mod WordRows

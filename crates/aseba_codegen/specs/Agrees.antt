@@ -149,6 +149,10 @@ errors_from project layout script zero run = []
 errors_from project layout script (suc n) run =
     is_error (ticked (all_acting project layout run (actions_at script run.ticks)).machine).0 ∷ errors_from project layout script n (ticking project layout script run)
 
+-- no tick of a run of words is a node error
+abbrev pub HasNoError : Project → Layout → List ℕ → Script → ℕ → Type 0
+HasNoError project layout words script n = IsTrue (list_all not (errors_from project layout script n (beginning (started project words))))
+
 -- the words of a program's core
 abbrev pub words_of : CoreProgram → List ℕ
 words_of program = code_words program.project program.core
@@ -173,7 +177,7 @@ pub record RunsAlike (program : CoreProgram) (layout : Layout) (script : Script)
   pub lines : map (line_by (line_at (core_code program.project program.core))) (run_of_words program layout script n).lines ≡ (run_of_core program layout script n).lines
   pub seen : Seen (core_code program.project program.core) program.core.cells (run_of_words program layout script n).machine (run_of_core program layout script n).state
   pub paced : CorePaced (core_weight program.core) program script (beats_of_words program layout script n)
-  pub no_error : IsTrue (list_all not (errors_from program.project layout script n (beginning (started program.project (words_of program)))))
+  pub no_error : HasNoError program.project layout (words_of program) script n
 
 -- Straight code, run without a script, runs as its core does.
 abbrev pub StraightCodeRuns : Type 0

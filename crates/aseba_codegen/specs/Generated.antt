@@ -15,8 +15,8 @@ pub record IsImage (project : Project) (core : Core) (image : Image) : Type 0 wh
   pub size_fits : core.size ≤ project.node.code
   pub depth_fits : core.depth ≤ project.node.stack
 
--- what a core needs is more than its node has
+-- What a core needs is more than its node has. Stack cells are told only where the words fit.
 abbrev pub TellsNeed : Project → Core → GenError → Type 0
 TellsNeed project core (CodeFull need have) = (need ≡ core.size) × (have ≡ project.node.code) × (have < need)
-TellsNeed project core (StackFull need have) = (need ≡ core.depth) × (have ≡ project.node.stack) × (have < need)
+TellsNeed project core (StackFull need have) = (core.size ≤ project.node.code) × (need ≡ core.depth) × (have ≡ project.node.stack) × (have < need)
 TellsNeed project core Mem = Unit {0}
