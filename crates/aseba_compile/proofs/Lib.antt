@@ -16,6 +16,7 @@ pub mod StraightRuns
 pub mod StraightShape
 pub mod StraightSound
 pub mod StraightSource
+pub mod StraightStanding
 pub mod StraightSteps
 pub mod StraightSums
 pub mod StraightValues

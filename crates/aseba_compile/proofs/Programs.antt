@@ -1,9 +1,10 @@
 -- The program of a sound source of built forms runs as the source means.
-use Rattle.std.proofs.Common.{◌≡◌, sym, subst, ℕ, ◌<◌, ◌≤◌, List, length, map, arith}
-use Rattle.std.specs.Prelude.{All}
+use Rattle.std.proofs.Common.{◌≡◌, refl, sym, ◌∙◌, subst, ℕ, ◌<◌, ◌≤◌, List, length, map, take, replicate, arith}
+use Rattle.std.specs.Prelude.{All, slice_index}
 use Rattle.std.proofs.lemmas.List.{length-map}
 use Rattle.aseba_tree.specs.Code.{Project, Source}
 use Rattle.aseba_tree.specs.Layout.{layout}
+use Rattle.aseba_tree.specs.Numbers.{source_words}
 use Rattle.aseba_tree.specs.State as tree
 use Rattle.aseba_codegen.specs.declared.coded.Coded.{Coded}
 use Rattle.aseba_codegen.specs.declared.image.Image.{Image}
@@ -13,20 +14,36 @@ use Rattle.aseba_check.specs.declared.checked.Placed.{Placed}
 use Rattle.aseba_compile.specs.declared.refusal.Refusal.{Refusal}
 use Rattle.aseba_compile.specs.declared.refusal.Refusal.TheVariants.{Lex, Syntax, Mem}
 use Rattle.aseba_check.specs.Places.{placed_view}
-use Rattle.aseba_compile.specs.Compiled.{IsProgram, IsRefused}
+use Rattle.aseba_compile.specs.Compiled.{IsCodeOf, IsProgram, IsRefused}
 use Rattle.aseba_compile.specs.Reading.{IsOnlyTree, IsTextRefused}
 use Rattle.aseba_compile.specs.Straight.{straight_core}
-use Rattle.aseba_compile.specs.StraightRun.{Fits, straight_words}
+use Rattle.aseba_compile.specs.StraightRun.{Fits, straight_words, straight_lines}
 use Rattle.aseba_compile.specs.StraightWords.{IsStraightImage, IsTreeRefused}
 use Rattle.aseba_compile.proofs.StraightCore.{core-shape, cells-fit}
 use Rattle.aseba_compile.proofs.StraightSound.{fits-straight}
 use Rattle.aseba_compile.proofs.StraightWords.{source_runs}
 
-words-fit : (program : tree.Program) → Fits program → length (straight_words program) ≤ program.project.node.code
-words-fit program fits =
+words-few : (program : tree.Program) → Fits program → length (straight_words program) ≤ source_words program
+words-few program fits =
     let core = straight_core program in
     let few = (core-shape program (fits-straight program fits) (cells-fit program fits.sound)).has_size in
-    omega (arith, length-map {A = Coded} {B = ℕ} (core_code program.project core) (λ c. c.word), code-long program.project core, few, fits.code)
+    omega (arith, length-map {A = Coded} {B = ℕ} (core_code program.project core) (λ c. c.word), code-long program.project core, few)
+
+words-fit : (program : tree.Program) → Fits program → length (straight_words program) ≤ program.project.node.code
+words-fit program fits = omega (arith, words-few program fits, fits.code)
+
+-- a line for each word
+lines-long : (program : tree.Program) → length (straight_lines program) ≡ length (straight_words program)
+lines-long program =
+    let code = core_code program.project (straight_core program) in
+    length-map {A = Coded} {B = ℕ} code (λ c. c.line) ∙ sym (length-map {A = Coded} {B = ℕ} code (λ c. c.word))
+
+-- no handler stands in the event table
+table-lines : (program : tree.Program) → take (slice_index (straight_words program) 0) (straight_lines program) ≡ replicate (slice_index (straight_words program) 0) 0
+table-lines program = refl
+
+code-of : (program : tree.Program) → Fits program → IsCodeOf program (straight_words program) (straight_lines program)
+code-of program fits = record { few = words-few program fits; lined = lines-long program; table = table-lines program; runs = λ n. source_runs program n fits }
 
 pub program-is : (program : tree.Program) (image : Image) (places : List Placed) → IsStraightImage program image → All (λ word. word < 65536) image.words → map placed_view places ≡ layout program → IsProgram program (record { image = image; places = places })
 program-is program image places is words laid = record {
@@ -36,7 +53,7 @@ program-is program image places is words laid = record {
   words = words;
   places = laid;
   cells = is.cells;
-  runs = λ n. rw (is.words, is.lines) (source_runs program n is.fits);
+  code = rw (is.words, is.lines) (code-of program is.fits);
 }
 
 -- a refusal of a text or of its tree

@@ -8,11 +8,7 @@ use Rattle.aseba_tree.specs.Code.{Name, Sized}
 use Rattle.aseba_tree.specs.Value.{Cells, cells_of, put_cell}
 use Rattle.aseba_tree.specs.State.{none_held, zeros}
 use Rattle.aseba_tree.specs.CoreStep.{address_from, put_from, put_into}
-
--- all cells in order
-abbrev pub flat : Cells → List ℤ
-flat [] = []
-flat (v ∷ vs) = v.1 ++ flat vs
+use Rattle.aseba_compile.specs.Standing.{all_cells_of}
 
 -- the cells are those of the variables, name by name and as many as each has
 abbrev pub Laid : Cells → List Sized → Type 0
@@ -40,7 +36,7 @@ put-at pre cs rest size x e =
 
 -- a value put into the first cell of a variable, with cells before and behind those of all
 pub put-among : (cells : Cells) (ds : List Sized) (pre rest : List ℤ) (base : ℕ) (name : Name) (x : ℤ) → base ≡ length pre → Laid cells ds
-    → put_into (address_from base ds name) 0 (x ∷ []) (pre ++ (flat cells ++ rest)) ≡ pre ++ (flat (put_cell cells name 0 x) ++ rest)
+    → put_into (address_from base ds name) 0 (x ∷ []) (pre ++ (all_cells_of cells ++ rest)) ≡ pre ++ (all_cells_of (put_cell cells name 0 x) ++ rest)
 put-among [] [] pre rest base name x e h = refl
 put-among [] (d ∷ ds) pre rest base name x e h = absurd h
 put-among (v ∷ vs) [] pre rest base name x e h = absurd h
@@ -49,14 +45,14 @@ put-among (v ∷ vs) (d ∷ ds) pre rest base name x e h =
     let inner = put-among vs ds (pre ++ v.1) rest (base + d.size) name x long h.2 in
     rw h.0 (pick (simp append_assoc at inner) (bytes_eq d.name name))
   where
-    pick : put_into (address_from (base + d.size) ds name) 0 (x ∷ []) (pre ++ (v.1 ++ (flat vs ++ rest))) ≡ pre ++ (v.1 ++ (flat (put_cell vs name 0 x) ++ rest))
-        → (b : Bool) → put_into (if b then Some (base, d.size) else address_from (base + d.size) ds name) 0 (x ∷ []) (pre ++ ((v.1 ++ flat vs) ++ rest))
-        ≡ pre ++ (flat (if b then (d.name, slice_set v.1 0 x) ∷ vs else (d.name, v.1) ∷ put_cell vs name 0 x) ++ rest)
-    pick deeper true = rw e (simp append_assoc (put-at pre v.1 (flat vs ++ rest) d.size x h.1))
+    pick : put_into (address_from (base + d.size) ds name) 0 (x ∷ []) (pre ++ (v.1 ++ (all_cells_of vs ++ rest))) ≡ pre ++ (v.1 ++ (all_cells_of (put_cell vs name 0 x) ++ rest))
+        → (b : Bool) → put_into (if b then Some (base, d.size) else address_from (base + d.size) ds name) 0 (x ∷ []) (pre ++ ((v.1 ++ all_cells_of vs) ++ rest))
+        ≡ pre ++ (all_cells_of (if b then (d.name, slice_set v.1 0 x) ∷ vs else (d.name, v.1) ∷ put_cell vs name 0 x) ++ rest)
+    pick deeper true = rw e (simp append_assoc (put-at pre v.1 (all_cells_of vs ++ rest) d.size x h.1))
     pick deeper false = simp append_assoc deeper
 
 -- a value put into the first cell of a variable
-pub put-flat : (cells : Cells) (ds : List Sized) (name : Name) (x : ℤ) → Laid cells ds → put_into (address_from 0 ds name) 0 (x ∷ []) (flat cells) ≡ flat (put_cell cells name 0 x)
+pub put-flat : (cells : Cells) (ds : List Sized) (name : Name) (x : ℤ) → Laid cells ds → put_into (address_from 0 ds name) 0 (x ∷ []) (all_cells_of cells) ≡ all_cells_of (put_cell cells name 0 x)
 put-flat cells ds name x h = let put = put-among cells ds [] [] 0 name x refl h in simp append-nil at put
 
 abbrev first_of : Option (ℕ × ℕ) → ℕ
@@ -69,7 +65,7 @@ second_of (Some p) = p.1
 
 -- the cells of a variable are those from its address on
 pub cells-flat : (cells : Cells) (ds : List Sized) (pre : List ℤ) (base : ℕ) (name : Name) (a n : ℕ) → base ≡ length pre → Laid cells ds → address_from base ds name ≡ Some (a, n)
-    → (cells_of cells name ≡ Some (take n (drop a (pre ++ flat cells)))) × (a + n ≤ length (pre ++ flat cells))
+    → (cells_of cells name ≡ Some (take n (drop a (pre ++ all_cells_of cells)))) × (a + n ≤ length (pre ++ all_cells_of cells))
 cells-flat [] [] pre base name a n e h f = cc
 cells-flat [] (d ∷ ds) pre base name a n e h f = absurd h
 cells-flat (v ∷ vs) [] pre base name a n e h f = absurd h
@@ -77,13 +73,13 @@ cells-flat (v ∷ vs) (d ∷ ds) pre base name a n e h f =
     let long : base + d.size ≡ length (pre ++ v.1) = omega (arith, length-append pre v.1, e, h.1) in
     rw h.0 (pick (λ g. let inner = cells-flat vs ds (pre ++ v.1) (base + d.size) name a n long h.2 g in simp append_assoc at inner) (bytes_eq d.name name) f)
   where
-    pick : (address_from (base + d.size) ds name ≡ Some (a, n) → (cells_of vs name ≡ Some (take n (drop a (pre ++ (v.1 ++ flat vs))))) × (a + n ≤ length (pre ++ (v.1 ++ flat vs))))
+    pick : (address_from (base + d.size) ds name ≡ Some (a, n) → (cells_of vs name ≡ Some (take n (drop a (pre ++ (v.1 ++ all_cells_of vs))))) × (a + n ≤ length (pre ++ (v.1 ++ all_cells_of vs))))
         → (b : Bool) → (if b then Some (base, d.size) else address_from (base + d.size) ds name) ≡ Some (a, n)
-        → ((if b then Some v.1 else cells_of vs name) ≡ Some (take n (drop a (pre ++ (v.1 ++ flat vs))))) × (a + n ≤ length (pre ++ (v.1 ++ flat vs)))
+        → ((if b then Some v.1 else cells_of vs name) ≡ Some (take n (drop a (pre ++ (v.1 ++ all_cells_of vs))))) × (a + n ≤ length (pre ++ (v.1 ++ all_cells_of vs)))
     pick deeper true f =
         let start : length pre ≡ a = sym e ∙ ap first_of f in
         let size : length v.1 ≡ n = h.1 ∙ ap second_of f in
-        (rw (← start, ← size, drop-append_seam pre (v.1 ++ flat vs), take-append_seam v.1 (flat vs)) refl, omega (arith, length-append pre (v.1 ++ flat vs), length-append v.1 (flat vs), start, size))
+        (rw (← start, ← size, drop-append_seam pre (v.1 ++ all_cells_of vs), take-append_seam v.1 (all_cells_of vs)) refl, omega (arith, length-append pre (v.1 ++ all_cells_of vs), length-append v.1 (all_cells_of vs), start, size))
     pick deeper false f = deeper f
 
 -- a name without an address has no cells
@@ -135,15 +131,15 @@ pub replicate-more : (m n : ℕ) → replicate m (pos 0) ++ replicate n (pos 0) 
 replicate-more zero n = rw (let e : 0 + n ≡ n = omega arith in e) refl
 replicate-more (suc m) n = rw (let e : suc m + n ≡ suc (m + n) = omega arith in e) (ap (λ t. pos 0 ∷ t) (replicate-more m n))
 
-pub flat-zeros : (ds : List Sized) → flat (zeros ds) ≡ replicate (sum_by (λ v. v.size) ds) (pos 0)
+pub flat-zeros : (ds : List Sized) → all_cells_of (zeros ds) ≡ replicate (sum_by (λ v. v.size) ds) (pos 0)
 flat-zeros [] = refl
 flat-zeros (d ∷ ds) =
     ap (λ t. replicate d.size (pos 0) ++ t) (flat-zeros ds) ∙ replicate-more d.size (sum_by (λ v. v.size) ds)
     ∙ ap (λ n. replicate n (pos 0)) (sym (sum_by-cons (λ v. v.size) d ds))
 
-pub flat-append : (xs ys : Cells) → flat (xs ++ ys) ≡ flat xs ++ flat ys
+pub flat-append : (xs ys : Cells) → all_cells_of (xs ++ ys) ≡ all_cells_of xs ++ all_cells_of ys
 flat-append [] ys = refl
-flat-append (x ∷ xs) ys = ap (λ t. x.1 ++ t) (flat-append xs ys) ∙ sym (append_assoc x.1 (flat xs) (flat ys))
+flat-append (x ∷ xs) ys = ap (λ t. x.1 ++ t) (flat-append xs ys) ∙ sym (append_assoc x.1 (all_cells_of xs) (all_cells_of ys))
 
 pub laid-append : (xs ys : Cells) (ds es : List Sized) → Laid xs ds → Laid ys es → Laid (xs ++ ys) (ds ++ es)
 laid-append [] ys [] es h k = k

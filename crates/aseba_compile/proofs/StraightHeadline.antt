@@ -1,15 +1,13 @@
 -- The words of a straight source tell what the source means.
-use Rattle.std.proofs.Common.{◌≡◌, refl, sym, ◌∙◌, ap, ℕ, zero, suc, ◌+◌, Bool, true, false, if◌then◌else◌, ℤ, List, [], ◌∷◌, ◌++◌, arith, length, take, drop, count_by}
+use Rattle.std.proofs.Common.{◌≡◌, refl, sym, ◌∙◌, ap, ℕ, zero, suc, ◌+◌, Bool, true, false, if◌then◌else◌, List, [], ◌∷◌, ◌++◌, arith, length, count_by}
 use Rattle.std.specs.Prelude.{map, sum_by}
-use Rattle.std.proofs.Math.Seq.{take-length}
 use Rattle.std.proofs.lemmas.List.{map-append}
 use Rattle.std.proofs.lemmas.List.Sums.{sum_by-cons}
 use Rattle.aseba_tree.specs.Code.{Project, Sized}
-use Rattle.aseba_tree.specs.Line.{Line, var, end, line_by}
-use Rattle.aseba_tree.specs.State.{Program, State, node_variables, declared}
+use Rattle.aseba_tree.specs.Line.{Line, end, line_by}
+use Rattle.aseba_tree.specs.State.{Program, node_variables, declared}
 use Rattle.aseba_tree.specs.Lines.{Run, ticking, all_ticking, begin_of, run_of}
-use Rattle.aseba_tree.specs.CoreStep.{CoreState}
-use Rattle.aseba_tree.specs.Layout.{Placed, variables, cells_of_variables}
+use Rattle.aseba_tree.specs.Layout.{variables}
 use Rattle.aseba_tree.specs.Numbers.{source_weight}
 use Rattle.aseba_tree.specs.CoreNumbers.{core_weight}
 use Rattle.aseba_codegen.specs.Table as table
@@ -18,17 +16,16 @@ use Rattle.aseba_codegen.specs.CoreRun.{core_run_of, core_begin_of}
 use Rattle.aseba_codegen.specs.Words.{core_code}
 use Rattle.aseba_codegen.specs.Agrees.{line_at, RunsAlike, StraightCodeRuns}
 use Rattle.aseba_codegen.proofs.BeatLaws.{beats_are_ticks, true_beats_are_effects}
+use Rattle.aseba_codegen.proofs.VarLines.{vars-kept}
 use Rattle.aseba_compile.specs.Straight.{straight_core, straight_program}
 use Rattle.aseba_compile.specs.StraightRun.{Fits, RunsAsMeant, straight_words, straight_lines}
-use Rattle.aseba_compile.proofs.StraightCells.{flat, Laid}
-use Rattle.aseba_compile.proofs.StraightValues.{laid-length}
-use Rattle.aseba_compile.proofs.StraightSteps.{Alike, both_go, both_rest}
 use Rattle.aseba_compile.proofs.StraightRuns.{RunAlike, all_ticking-alike}
 use Rattle.aseba_compile.proofs.StraightLoad.{loaded-alike}
 use Rattle.aseba_compile.proofs.StraightCore.{core-straight, weight-below}
 use Rattle.aseba_compile.proofs.StraightPace.{paced-alike}
 use Rattle.aseba_compile.proofs.StraightNames.{lines-left}
 use Rattle.aseba_compile.proofs.StraightSound.{fits-straight}
+use Rattle.aseba_compile.proofs.StraightStanding.{same-of, left-cells, standing}
 
 -- Ticks and steps
 
@@ -48,28 +45,10 @@ machine-ticks : (project : Project) (layout : Layout) (n : ℕ) (run : table.Run
 machine-ticks project layout zero run = omega arith
 machine-ticks project layout (suc n) run = let inner = machine-ticks project layout n (table.ticking project layout [] run) in omega (arith, inner)
 
--- Cells
+-- Lines
 
-pub record SameCells (program : Program) (s : State) (c : CoreState) : Type 0 where
-  pub laid : Laid s.cells (variables program)
-  pub flat_is : c.cells ≡ flat s.cells
-
-same-cells : (program : Program) (s : State) (c : CoreState) → Alike program s c → SameCells program s c
-same-cells program s c (both_go cells bits core_bits ss h k es ec) = rw (es, ec) (record { laid = h; flat_is = refl })
-same-cells program s c (both_rest cells bits core_bits h es ec) = rw (es, ec) (record { laid = h; flat_is = refl })
-
-left-cells : (program : Program) (s : State) (c : CoreState) (memory : List ℤ) → SameCells program s c → take (cells_of_variables program) memory ≡ take (cells_of_variables program) c.cells
-    → take (cells_of_variables program) memory ≡ flat s.cells
-left-cells program s c memory same e =
-    e ∙ ap (take (cells_of_variables program)) same.flat_is ∙ ap (λ n. take n (flat s.cells)) (sym (laid-length s.cells (variables program) same.laid)) ∙ take-length (flat s.cells)
-
--- the lines of variables name no line of the source
-vars-kept : (f : ℕ → ℕ) (cells : List ℤ) (vs : List Placed) → map (line_by f) (table.var_lines cells vs) ≡ table.var_lines cells vs
-vars-kept f cells [] = refl
-vars-kept f cells (v ∷ vs) = ap (λ t. var v.name (take v.size (drop v.start cells)) ∷ t) (vars-kept f cells vs)
-
-joined : (f : ℕ → ℕ) (a a' b b' : List Line) (t t' k k' : ℕ) → map (line_by f) a ≡ a' → map (line_by f) b ≡ b' → t ≡ t' → k ≡ k' → map (line_by f) (a ++ b ++ end t k ∷ []) ≡ a' ++ b' ++ end t' k' ∷ []
-joined f a a' b b' t t' k k' p q r s = rw (map-append (line_by f) (a ++ b) (end t k ∷ []), map-append (line_by f) a b, p, q, r, s) refl
+lines-joined : (f : ℕ → ℕ) (a a' b b' : List Line) (t t' k k' : ℕ) → map (line_by f) a ≡ a' → map (line_by f) b ≡ b' → t ≡ t' → k ≡ k' → map (line_by f) (a ++ b ++ end t k ∷ []) ≡ a' ++ b' ++ end t' k' ∷ []
+lines-joined f a a' b b' t t' k k' p q r s = rw (map-append (line_by f) (a ++ b) (end t k ∷ []), map-append (line_by f) a b, p, q, r, s) refl
 
 pub straight-runs : StraightCodeRuns → (program : Program) (n : ℕ) → Fits program → RunsAsMeant program (straight_words program) (straight_lines program) n
 straight-runs code-runs program n fits =
@@ -86,13 +65,15 @@ straight-runs code-runs program n fits =
     let at_last = all_ticking-alike program (begin_of program) (core_begin_of (straight_program program)) beats at_first in
     let f = line_at (core_code project (straight_core program)) in
     let told_same : map (line_by f) machine_run.lines ≡ run.lines = ra.lines ∙ sym at_last.lines in
-    let same = same-cells program run.state (core_run_of (straight_program program) [] beats).state at_last.states in
+    let same = same-of program run.state (core_run_of (straight_program program) [] beats).state at_last.states in
     let memory = left-cells program run.state (core_run_of (straight_program program) [] beats).state machine_run.machine.cells same ra.seen.cells_alike in
     let left = lines-left run.state.cells (variables program) (node_variables project) (declared program) machine_run.machine.cells (sum_by (λ (v : Sized). v.size) (node_variables project)) same.laid refl is.new memory refl in
     let long = beats_are_ticks project layout words [] n in
     let ticks : machine_run.ticks ≡ run.ticks = omega (arith, machine-ticks project layout n (beginning (started project words)), ticks-counted program beats (begin_of program), long) in
     let steps : machine_run.effects ≡ run.steps = omega (arith, true_beats_are_effects project layout words [] n, steps-counted program beats (begin_of program)) in
     record {
-      lines_same = joined f machine_run.lines run.lines _ _ machine_run.ticks run.ticks machine_run.effects run.steps told_same (vars-kept f machine_run.machine.cells layout.own ∙ left) ticks steps;
+      lines_same = lines-joined f machine_run.lines run.lines _ _ machine_run.ticks run.ticks machine_run.effects run.steps told_same (vars-kept f machine_run.machine.cells layout.own ∙ left) ticks steps;
       paced = paced-alike program beats (source_weight program) (core_weight (straight_core program)) (weight-below program fits) at_first ra.paced;
+      stands = standing program (core_code project (straight_core program)) machine_run.machine run.state (core_run_of (straight_program program) [] beats).state same ra.seen;
+      no_error = ra.no_error;
     }

@@ -9,7 +9,8 @@ use Rattle.aseba_tree.specs.State.{Program, loaded, zeros, node_variables, decla
 use Rattle.aseba_tree.specs.CoreStep.{core_loaded, whens_before, address_of, put_into}
 use Rattle.aseba_tree.specs.Layout.{variables, cells_of_variables}
 use Rattle.aseba_compile.specs.Straight.{straight_core, straight_program, core_stmts_of}
-use Rattle.aseba_compile.proofs.StraightCells.{flat, Laid, put-among, laid-put, laid-zeros, flat-zeros, flat-append, laid-append, replicate-more}
+use Rattle.aseba_compile.specs.Standing.{all_cells_of}
+use Rattle.aseba_compile.proofs.StraightCells.{Laid, put-among, laid-put, laid-zeros, flat-zeros, flat-append, laid-append, replicate-more}
 use Rattle.aseba_compile.proofs.StraightShape.{are_named}
 use Rattle.aseba_compile.proofs.StraightSteps.{Alike, both_go, going, core_going}
 
@@ -26,7 +27,7 @@ first-laid program =
     laid-append (put_cell (zeros node) (codes "_id") 0 (wrapped (pos program.project.id))) (zeros (declared program)) node (declared program)
     (laid-put (zeros node) node (codes "_id") 0 (wrapped (pos program.project.id)) (laid-zeros node)) (laid-zeros (declared program))
 
-all_zero : (program : Program) → replicate (cells_of_variables program + 0) (pos 0) ≡ flat (zeros (node_variables program.project)) ++ flat (zeros (declared program))
+all_zero : (program : Program) → replicate (cells_of_variables program + 0) (pos 0) ≡ all_cells_of (zeros (node_variables program.project)) ++ all_cells_of (zeros (declared program))
 all_zero program =
     let node = node_variables program.project in
     let own = declared program in
@@ -34,19 +35,19 @@ all_zero program =
     rw (sums, flat-zeros node, flat-zeros own) (sym (replicate-more (sum_by (λ v. v.size) node) (sum_by (λ v. v.size) own)))
 
 loaded-flat : (program : Program) → put_into (address_of (node_variables program.project) (codes "_id")) 0 (wrapped (pos program.project.id) ∷ []) (replicate (cells_of_variables program + 0) (pos 0))
-    ≡ flat (first_cells program)
+    ≡ all_cells_of (first_cells program)
 loaded-flat program =
     let node = node_variables program.project in
     let id = wrapped (pos program.project.id) in
     ap (put_into (address_of node (codes "_id")) 0 (id ∷ [])) (all_zero program)
-    ∙ put-among (zeros node) node [] (flat (zeros (declared program))) 0 (codes "_id") id refl (laid-zeros node)
+    ∙ put-among (zeros node) node [] (all_cells_of (zeros (declared program))) 0 (codes "_id") id refl (laid-zeros node)
     ∙ sym (flat-append (put_cell (zeros node) (codes "_id") 0 id) (zeros (declared program)))
 
 source-loaded : (program : Program) → loaded program ≡ going (first_cells program) (replicate (all_whens program.source) false) (init_code program.source)
 unfolding loaded
 source-loaded program = refl
 
-core-loaded : (program : Program) → core_loaded (straight_program program) ≡ core_going (flat (first_cells program)) (replicate (whens_before (straight_core program) 0) false) (core_stmts_of program (init_code program.source))
+core-loaded : (program : Program) → core_loaded (straight_program program) ≡ core_going (all_cells_of (first_cells program)) (replicate (whens_before (straight_core program) 0) false) (core_stmts_of program (init_code program.source))
 unfolding core_loaded
 core-loaded program = rw (loaded-flat program) refl
 

@@ -10,7 +10,8 @@ use Rattle.aseba_tree.specs.Value.{Cells, variable_cells}
 use Rattle.aseba_tree.specs.CoreStep.{address_from, address_of}
 use Rattle.aseba_tree.specs.Layout.{Placed, placed_from}
 use Rattle.aseba_tree.proofs.SizeLaws.{both_left, both_right}
-use Rattle.aseba_compile.proofs.StraightCells.{flat, Laid, cells-flat}
+use Rattle.aseba_compile.specs.Standing.{all_cells_of}
+use Rattle.aseba_compile.proofs.StraightCells.{Laid, cells-flat}
 use Rattle.aseba_compile.proofs.StraightShape.{are_new}
 use Rattle.aseba_compile.proofs.StraightValues.{laid-length}
 
@@ -45,7 +46,7 @@ narrowed k (suc a) (suc n) (x ∷ l) h = narrowed k a n l (omega arith)
 
 -- a new variable's cells are its machine's
 left-in : (cells : Cells) (vs known es : List Sized) (v : Sized) (memory : List ℤ) → Laid cells vs → vs ≡ known ++ v ∷ es → list_any (λ u. bytes_eq u.name v.name) known ≡ false
-    → take (sum_by (λ v. v.size) vs) memory ≡ flat cells → take v.size (drop (sum_by (λ v. v.size) known) memory) ≡ variable_cells cells v.name
+    → take (sum_by (λ v. v.size) vs) memory ≡ all_cells_of cells → take v.size (drop (sum_by (λ v. v.size) known) memory) ≡ variable_cells cells v.name
 left-in cells vs known es v memory h same new alike =
     let start = sum_by (λ v. v.size) known in
     let place : address_of vs v.name ≡ Some (start, v.size) = ap (λ t. address_from 0 t v.name) same ∙ new-address known es 0 v new ∙ ap (λ n. Some (n, v.size)) (zero-add start) in
@@ -54,7 +55,7 @@ left-in cells vs known es v memory h same new alike =
     sym (narrowed v.size start (sum_by (λ v. v.size) vs) memory inside) ∙ ap (λ t. take v.size (drop start t)) alike ∙ sym (ap (λ o. unwrap_or o []) found.0)
 
 pub lines-left : (cells : Cells) (vs known own : List Sized) (memory : List ℤ) (start : ℕ) → Laid cells vs → vs ≡ known ++ own → are_new known own ≡ true
-    → take (sum_by (λ v. v.size) vs) memory ≡ flat cells → start ≡ sum_by (λ v. v.size) known
+    → take (sum_by (λ v. v.size) vs) memory ≡ all_cells_of cells → start ≡ sum_by (λ v. v.size) known
     → map (λ (v : Placed). var v.name (take v.size (drop v.start memory))) (placed_from start own) ≡ map (λ (v : Sized). var v.name (variable_cells cells v.name)) own
 lines-left cells vs known [] memory start h same e alike s = refl
 lines-left cells vs known (v ∷ own) memory start h same e alike s =

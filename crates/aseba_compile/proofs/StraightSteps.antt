@@ -16,7 +16,8 @@ use Rattle.aseba_tree.specs.Elements.{element_of}
 use Rattle.aseba_tree.proofs.Steps.{applied-none_held}
 use Rattle.aseba_tree.proofs.SizeLaws.{both_left, both_right}
 use Rattle.aseba_compile.specs.Straight.{is_cell, is_sum_form, is_all, is_straight_form, event_place, core_stmts_of, straight_program}
-use Rattle.aseba_compile.proofs.StraightCells.{flat, Laid, put-flat, laid-put, held-put, held-set}
+use Rattle.aseba_compile.specs.Standing.{all_cells_of}
+use Rattle.aseba_compile.proofs.StraightCells.{Laid, put-flat, laid-put, held-put, held-set}
 use Rattle.aseba_compile.proofs.StraightShape.{is_value, has_event, are_named}
 use Rattle.aseba_compile.proofs.StraightValues.{cell_place, OneCell, one_cell, Valued, sum-valued}
 
@@ -36,9 +37,9 @@ core_resting cells bits = record { cells = cells; bits = bits; held = core_none_
 -- The source does statements of its lines, and its core the same; or both have nothing to do.
 pub data Alike (program : Program) : State → CoreState → Type 0 where
   both_go : {s : State} {c : CoreState} (cells : Cells) (bits core_bits : List Bool) (ss : Stmts) → Laid cells (variables program) → are_named program ss ≡ true
-      → s ≡ going cells bits ss → c ≡ core_going (flat cells) core_bits (core_stmts_of program ss) → Alike program s c
+      → s ≡ going cells bits ss → c ≡ core_going (all_cells_of cells) core_bits (core_stmts_of program ss) → Alike program s c
   both_rest : {s : State} {c : CoreState} (cells : Cells) (bits core_bits : List Bool) → Laid cells (variables program)
-      → s ≡ resting cells bits → c ≡ core_resting (flat cells) core_bits → Alike program s c
+      → s ≡ resting cells bits → c ≡ core_resting (all_cells_of cells) core_bits → Alike program s c
 
 -- the states behind a step are alike, and it told the same
 pub record SteppedAlike (program : Program) (s : Stepped) (c : CoreStepped) : Type 0 where
@@ -96,13 +97,13 @@ places-cell : (program : Program) (cells : Cells) (place : Place) (name : Name) 
 places-cell program cells place name part a e h = rw (e, h.of_name) refl
 
 stored-flat : (program : Program) (cells : Cells) (name : Name) (a : ℕ) (v : ℤ) → Laid cells (variables program) → address_of (variables program) name ≡ Some (a, 1)
-    → slice_set (flat cells) a v ≡ flat (put_cell cells name 0 v)
+    → slice_set (all_cells_of cells) a v ≡ all_cells_of (put_cell cells name 0 v)
 stored-flat program cells name a v h e = let put = put-flat cells (variables program) name v h in simp (e, add-zero) at put
 
 -- the states behind a step whose results are known
 behind : (program : Program) (s : Stepped) (c : CoreStepped) (cells : Cells) (bits core_bits : List Bool) (ss : Stmts) (r : Option Report)
     → Laid cells (variables program) → are_named program ss ≡ true
-    → s ≡ record { state = going cells bits ss; report = r } → c ≡ record { state = core_going (flat cells) core_bits (core_stmts_of program ss); report = r } → SteppedAlike program s c
+    → s ≡ record { state = going cells bits ss; report = r } → c ≡ record { state = core_going (all_cells_of cells) core_bits (core_stmts_of program ss); report = r } → SteppedAlike program s c
 behind program s c cells bits core_bits ss r h k es ec = record {
   states = both_go cells bits core_bits ss h k (ap (λ t. t.state) es) (ap (λ t. t.state) ec);
   reports = ap (λ t. t.report) es ∙ sym (ap (λ t. t.report) ec);
@@ -113,13 +114,13 @@ assigned-alike : (program : Program) (cells : Cells) (bits core_bits : List Bool
     → Laid cells (variables program) → are_named program ss ≡ true → part ≡ all → address_of (variables program) name ≡ Some (a, 1)
     → Valued program cells form
     → SteppedAlike program (step program (going cells bits (stmts (stmt line place (assign (record { place = tp; name = name; part = part }) (expr first own form))) ss)))
-    (core_step (straight_program program) (core_going (flat cells) core_bits (core_stmts_of program (stmts (stmt line place (assign (record { place = tp; name = name; part = part }) (expr first own form))) ss))))
+    (core_step (straight_program program) (core_going (all_cells_of cells) core_bits (core_stmts_of program (stmts (stmt line place (assign (record { place = tp; name = name; part = part }) (expr first own form))) ss))))
 assigned-alike program cells bits core_bits line place tp name part first own form ss a h k p e val =
     let one = one_cell cells (variables program) name a h e in
     let hv : value program.project.consts cells (expr first own form) ≡ Ok (val.cell ∷ []) = rw val.computed refl in
     let after = step-assign program cells bits line place (record { place = tp; name = name; part = part }) (expr first own form) ss val.cell hv (places-cell program cells tp name part a p one) in
     let low : nat_le (cells_of_variables program) a ≡ false = lt-leb (cells_of_variables program) a one.inside in
-    let core_after = core_step-store (straight_program program) (flat cells) core_bits line a val.core (core_stmts_of program ss) val.cell val.same low in
+    let core_after = core_step-store (straight_program program) (all_cells_of cells) core_bits line a val.core (core_stmts_of program ss) val.cell val.same low in
     let stored = stored-flat program cells name a val.cell h e in
     behind program _ _ (put_cell cells name 0 val.cell) bits core_bits ss None (laid-put cells (variables program) name 0 val.cell h) k after (rw (e, val.element, ← stored) core_after)
 
@@ -156,10 +157,10 @@ core_step-send program cells bits line n ss = refl
 emitted-alike : (program : Program) (cells : Cells) (bits core_bits : List Bool) (line : ℕ) (place : Place) (name : Name) (ss : Stmts)
     → Laid cells (variables program) → are_named program ss ≡ true → has_event program.project name ≡ true
     → SteppedAlike program (step program (going cells bits (stmts (stmt line place (emit name None)) ss)))
-    (core_step (straight_program program) (core_going (flat cells) core_bits (core_stmts_of program (stmts (stmt line place (emit name None)) ss))))
+    (core_step (straight_program program) (core_going (all_cells_of cells) core_bits (core_stmts_of program (stmts (stmt line place (emit name None)) ss))))
 emitted-alike program cells bits core_bits line place name ss h k e =
     behind program _ _ cells bits core_bits ss (Some (sent (named name) [])) h k (step-emit program cells bits line place name ss)
-    (core_step-send (straight_program program) (flat cells) core_bits line (event_place program.project name) (core_stmts_of program ss) ∙ ap (λ t. record { state = core_going (flat cells) core_bits (core_stmts_of program ss); report = Some (sent t []) }) (sent-event program.project name e))
+    (core_step-send (straight_program program) (all_cells_of cells) core_bits line (event_place program.project name) (core_stmts_of program ss) ∙ ap (λ t. record { state = core_going (all_cells_of cells) core_bits (core_stmts_of program ss); report = Some (sent t []) }) (sent-event program.project name e))
 
 -- All statements
 
@@ -169,7 +170,7 @@ is_named program form = is_straight_form (has_event program.project) (is_cell (v
 
 first-alike : (program : Program) (cells : Cells) (bits core_bits : List Bool) (line : ℕ) (place : Place) (form : StmtForm) (ss : Stmts) → Laid cells (variables program) → are_named program ss ≡ true → is_named program form ≡ true
     → SteppedAlike program (step program (going cells bits (stmts (stmt line place form) ss)))
-    (core_step (straight_program program) (core_going (flat cells) core_bits (core_stmts_of program (stmts (stmt line place form) ss))))
+    (core_step (straight_program program) (core_going (all_cells_of cells) core_bits (core_stmts_of program (stmts (stmt line place form) ss))))
 first-alike program cells bits core_bits line place (assign target (expr first own form)) ss h k e =
     let ds = variables program in
     let names = is_value program.project.consts ds in
@@ -191,10 +192,10 @@ first-alike program cells bits core_bits line place (call name es) ss h k e = cc
 first-alike program cells bits core_bits line place return ss h k e = cc
 
 going-alike : (program : Program) (cells : Cells) (bits core_bits : List Bool) (ss : Stmts) → Laid cells (variables program) → are_named program ss ≡ true
-    → SteppedAlike program (step program (going cells bits ss)) (core_step (straight_program program) (core_going (flat cells) core_bits (core_stmts_of program ss)))
+    → SteppedAlike program (step program (going cells bits ss)) (core_step (straight_program program) (core_going (all_cells_of cells) core_bits (core_stmts_of program ss)))
 going-alike program cells bits core_bits no_stmts h k =
     let after = step-finish program cells bits in
-    let core_after = core_step-finish (straight_program program) (flat cells) core_bits in
+    let core_after = core_step-finish (straight_program program) (all_cells_of cells) core_bits in
     record { states = both_rest cells bits core_bits h (ap (λ t. t.state) after) (ap (λ t. t.state) core_after); reports = ap (λ t. t.report) after ∙ sym (ap (λ t. t.report) core_after) }
 going-alike program cells bits core_bits (stmts (stmt line place form) ss) h k =
     first-alike program cells bits core_bits line place form ss h (both_right (is_named program form) (are_named program ss) k)
@@ -204,5 +205,5 @@ pub step-alike : (program : Program) (s : State) (c : CoreState) → Alike progr
 step-alike program s c (both_go cells bits core_bits ss h k es ec) = rw (es, ec) (going-alike program cells bits core_bits ss h k)
 step-alike program s c (both_rest cells bits core_bits h es ec) =
     let after = ap (step program) es ∙ step-resting program cells bits in
-    let core_after = ap (core_step (straight_program program)) ec ∙ core_step-resting (straight_program program) (flat cells) core_bits in
+    let core_after = ap (core_step (straight_program program)) ec ∙ core_step-resting (straight_program program) (all_cells_of cells) core_bits in
     record { states = both_rest cells bits core_bits h (ap (λ t. t.state) after) (ap (λ t. t.state) core_after); reports = ap (λ t. t.report) after ∙ sym (ap (λ t. t.report) core_after) }

@@ -16,7 +16,8 @@ use Rattle.aseba_tree.specs.Layout.{variables}
 use Rattle.aseba_tree.proofs.SizeLaws.{both_left, both_right}
 use Rattle.aseba_tree.specs.Elements.{variable_place, elements_of_form}
 use Rattle.aseba_compile.specs.Straight.{has_one_cell, adds, is_sum_form}
-use Rattle.aseba_compile.proofs.StraightCells.{flat, Laid, cells-flat, cells-none}
+use Rattle.aseba_compile.specs.Standing.{all_cells_of}
+use Rattle.aseba_compile.proofs.StraightCells.{Laid, cells-flat, cells-none}
 use Rattle.aseba_compile.proofs.StraightShape.{constant_named, has_value, is_value}
 
 -- a name of a cell has an address
@@ -24,25 +25,25 @@ pub cell_place : (o : Option (ℕ × ℕ)) → has_one_cell o ≡ true → (a : 
 cell_place None e = cc
 cell_place (Some p) e = (p.0, ap (λ n. Some (p.0, n)) (eqb-true p.1 1 e))
 
-pub laid-length : (cells : Cells) (ds : List Sized) → Laid cells ds → length (flat cells) ≡ sum_by (λ v. v.size) ds
+pub laid-length : (cells : Cells) (ds : List Sized) → Laid cells ds → length (all_cells_of cells) ≡ sum_by (λ v. v.size) ds
 laid-length [] [] h = refl
 laid-length [] (d ∷ ds) h = absurd h
 laid-length (v ∷ vs) [] h = absurd h
-laid-length (v ∷ vs) (d ∷ ds) h = let inner = laid-length vs ds h.2 in omega (arith, length-append v.1 (flat vs), inner, h.1, sum_by-cons (λ v. v.size) d ds)
+laid-length (v ∷ vs) (d ∷ ds) h = let inner = laid-length vs ds h.2 in omega (arith, length-append v.1 (all_cells_of vs), inner, h.1, sum_by-cons (λ v. v.size) d ds)
 
 take-one : (l : List ℤ) (a : ℕ) → a + 1 ≤ length l → take 1 (drop a l) ≡ slice_index_or l a (pos 0) ∷ []
 take-one l a h = let less : a < length l = omega arith in rw (drop-cons l a (pos 0)) refl
 
 -- the one cell of a variable
 pub record OneCell (cells : Cells) (ds : List Sized) (name : Name) (a : ℕ) : Type 0 where
-  pub of_name : cells_of cells name ≡ Some (slice_index_or (flat cells) a (pos 0) ∷ [])
-  pub taken : take 1 (drop a (flat cells)) ≡ slice_index_or (flat cells) a (pos 0) ∷ []
+  pub of_name : cells_of cells name ≡ Some (slice_index_or (all_cells_of cells) a (pos 0) ∷ [])
+  pub taken : take 1 (drop a (all_cells_of cells)) ≡ slice_index_or (all_cells_of cells) a (pos 0) ∷ []
   pub inside : a < sum_by (λ v. v.size) ds
 
 pub one_cell : (cells : Cells) (ds : List Sized) (name : Name) (a : ℕ) → Laid cells ds → address_of ds name ≡ Some (a, 1) → OneCell cells ds name a
 one_cell cells ds name a h e =
     let found = cells-flat cells ds [] 0 name a 1 refl h e in
-    let one = take-one (flat cells) a found.1 in
+    let one = take-one (all_cells_of cells) a found.1 in
     record { of_name = found.0 ∙ ap Some one; taken = one; inside = omega (arith, laid-length cells ds h, found.1) }
 
 -- The one element of a form, its core's expression and their value.
@@ -51,12 +52,12 @@ pub record Valued (program : Program) (cells : Cells) (form : Form) : Type 0 whe
   pub cell : ℤ
   pub element : elements_of_form program form ≡ core ∷ []
   pub computed : form_elements program.project.consts cells form ≡ Ok cell ∷ []
-  pub same : core_value (flat cells) core ≡ Ok cell
+  pub same : core_value (all_cells_of cells) core ≡ Ok cell
 
 variable-valued : (program : Program) (cells : Cells) (name : Name) (a : ℕ) → variable_place program name ≡ Some (a, 1) → OneCell cells (variables program) name a → Valued program cells (whole name)
 variable-valued program cells name a e h = record {
   core = cell a;
-  cell = slice_index_or (flat cells) a (pos 0);
+  cell = slice_index_or (all_cells_of cells) a (pos 0);
   element = rw e refl;
   computed = rw h.of_name refl;
   same = refl;

@@ -1,8 +1,9 @@
 -- What the compiler answers: a program that runs as the text means, or why there is none.
-use Rattle.std.specs.Prelude.{◌≡◌, ℕ, ◌<◌, ◌≤◌, true, All, List, length, map}
+use Rattle.std.specs.Prelude.{◌≡◌, ℕ, ◌<◌, ◌≤◌, true, All, List, length, map, replicate, slice_index, take}
 use Rattle.aseba_tree.specs.Code.{Project, Source}
 use Rattle.aseba_tree.specs.State as tree
 use Rattle.aseba_tree.specs.Layout.{layout, cells_of_variables}
+use Rattle.aseba_tree.specs.Numbers.{source_words}
 use Rattle.aseba_tree.specs.Soundness.{Sound}
 use Rattle.aseba_check.specs.Places.{placed_view}
 use Rattle.aseba_compile.specs.declared.program.Program.{Program}
@@ -13,7 +14,16 @@ use Rattle.aseba_compile.specs.Straight.{has_only_built_forms}
 use Rattle.aseba_compile.specs.StraightRun.{RunsAsMeant}
 use Rattle.aseba_compile.specs.StraightWords.{IsTreeRefused}
 
--- A program of a sound source all of whose forms are compiled: its words have 16 bits and fit the node, its variables lie in the layout, and however long it runs, it runs as the source means.
+-- The words are code of a source: they are at most as many as its plain code has; each has a line, which is 0 in the event table, whose length is the first
+-- word; and however long they run, they run as the source means.
+pub record IsCodeOf (source : tree.Program) (words lines : List ℕ) : Type 0 where
+  pub few : length words ≤ source_words source
+  pub lined : length lines ≡ length words
+  pub table : take (slice_index words 0) lines ≡ replicate (slice_index words 0) 0
+  pub runs : (n : ℕ) → RunsAsMeant source words lines n
+
+-- A program of a sound source all of whose forms are compiled: its words have 16 bits, fit the node and are code of the source, and its variables lie in the
+-- layout.
 pub record IsProgram (source : tree.Program) (program : Program) : Type 0 where
   pub sound : Sound source
   pub built : has_only_built_forms source ≡ true
@@ -21,7 +31,7 @@ pub record IsProgram (source : tree.Program) (program : Program) : Type 0 where
   pub words : All (λ word. word < 65536) program.image.words
   pub places : map placed_view program.places ≡ layout source
   pub cells : program.image.temp_start ≡ cells_of_variables source
-  pub runs : (n : ℕ) → RunsAsMeant source program.image.words program.image.lines n
+  pub code : IsCodeOf source program.image.words program.image.lines
 
 -- something holds of the one tree that a text spells
 pub record OfOnlyTree (project : Project) (text : List ℕ) (P : tree.Program → Type 0) : Type 0 where

@@ -1,6 +1,7 @@
 pub mod Checking
 pub mod Compiled
 pub mod Reading
+pub mod Standing
 pub mod Straight
 pub mod StraightAnswer
 pub mod StraightRead

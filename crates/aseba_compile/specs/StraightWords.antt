@@ -1,5 +1,5 @@
 -- What the code of a source is, or why it has none.
-use Rattle.std.specs.Prelude.{◌≡◌, ◌<◌, true, false, Result, Ok, Err}
+use Rattle.std.specs.Prelude.{◌≡◌, ◌<◌, ◌≤◌, true, false, Result, Ok, Err}
 use Rattle.aseba_tree.specs.State.{Program}
 use Rattle.aseba_tree.specs.Layout.{cells_of_variables}
 use Rattle.aseba_tree.specs.Numbers.{source_words, source_depth}
@@ -16,12 +16,13 @@ pub record IsBuilt (program : Program) : Type 0 where
   pub sound : Sound program
   pub built : has_only_built_forms program ≡ true
 
--- Why a tree has no code: it isn't sound, it is but has a form that isn't compiled yet, or it needs more words or stack than the node has.
+-- Why a tree has no code: it isn't sound; it is sound, but has a form that isn't compiled so far; it needs more words than the node has; or its words fit, and
+-- it needs more stack cells.
 abbrev pub IsTreeRefused : Program → Refusal → Type 0
 IsTreeRefused program (Check error) = IsCheckFault program error
 IsTreeRefused program NotBuilt = Sound program × (has_only_built_forms program ≡ false)
 IsTreeRefused program (CodeFull need have) = IsBuilt program × (need ≡ source_words program) × (have ≡ program.project.node.code) × (have < need)
-IsTreeRefused program (StackFull need have) = IsBuilt program × (need ≡ source_depth program) × (have ≡ program.project.node.stack) × (have < need)
+IsTreeRefused program (StackFull need have) = IsBuilt program × (source_words program ≤ program.project.node.code) × (need ≡ source_depth program) × (have ≡ program.project.node.stack) × (have < need)
 IsTreeRefused program Mem = Unit {0}
 IsTreeRefused program refusal = ⊥
 

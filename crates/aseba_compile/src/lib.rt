@@ -1,5 +1,5 @@
-//! The chain of passes from the text of a source to its words. Yet it compiles sources of straight
-//! lines alone.
+//! The chain of passes from the text of a source to its words. So far it compiles only sources of
+//! straight lines.
 #![tactic(auto)]
 
 mod passes;

@@ -18,8 +18,8 @@ use aseba_tree::{Project, Source};
 use aseba_words::List;
 use std::alloc::Global;
 
-/// Compiles the text of a source for the node of a project. The refusals tell where the text is no
-/// program, or what it needs and the node doesn't have.
+/// Compiles the text of a source for the node of a project. The refusal tells why there is none:
+/// where the text is no program, which rule it breaks, or what it needs and the node doesn't have.
 pub fn compile(alloc: Global, text: &[u8], project: &Project) -> Result<Program, Refusal>
     requires inside { InsideProject project.now }
     requires short { length text.now < 4294967295 }

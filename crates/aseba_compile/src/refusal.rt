@@ -17,13 +17,14 @@ pub enum Refusal {
     Syntax(SyntaxError),
     /// Its tree isn't sound in the project. Want of memory never stands here either.
     Check(CheckError),
-    /// It is sound, but has forms that aren't compiled yet. These are all but declarations,
-    /// assignments of sums to whole variables of one cell, and events without an argument that are
-    /// emitted; sums are numbers and names with `+` and `-` between them.
+    /// It is sound, but has a form that isn't compiled so far. Compiled are: a declaration without
+    /// a value, of any size; a declaration of one cell whose value is a sum; the assignment of a
+    /// sum to a whole variable of one cell; and an `emit` without an argument. A sum is made of
+    /// numbers and names with `+` and `-` between them.
     NotBuilt,
     /// It takes more words than the node has for code.
     CodeFull { need: u64, have: u64 },
-    /// It takes more stack cells than the node has.
+    /// Its words fit, and it takes more stack cells than the node has.
     StackFull { need: u64, have: u64 },
     /// Memory didn't suffice.
     Mem,

@@ -1,5 +1,5 @@
 //! Sources of straight lines: the core and the words of each sound source that has only forms which
-//! are compiled yet.
+//! are compiled so far.
 
 mod built;
 mod elements;
@@ -13,8 +13,9 @@ ghost use Rattle.aseba_compile.specs.StraightRun.{StraightWordsRun};
 
 pub use image::straight_image;
 
-/// The words of a sound source that has only such forms and fits its node tell, by the machine
-/// alone, the lines of the source's meaning on the words' own beats, and these are paced.
+/// The words of a sound source that has only such forms and fits its node run as the source means:
+/// the machine alone tells the same lines, no tick is a node error, and after any number of ticks it
+/// stands at the source's state.
 pub fn straight_words_run()
     ensures { StraightWordsRun }
 {}

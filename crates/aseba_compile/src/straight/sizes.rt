@@ -6,7 +6,7 @@ ghost use Rattle.aseba_compile.specs.StraightRead.{all_words, deepest, flat_word
 use aseba_tree::{CoreExpr, CoreForm, CoreStmt, CoreTarget};
 use aseba_words::Mem;
 
-/// A sum, where it is a number that can be counted up to: so much code is in no memory.
+/// `a` plus `b`, or want of memory where 64 bits don't hold it: no memory holds such code.
 pub fn sum(a: u64, b: u64) -> Result<u64, Mem>
     ensures { IfOk result (λ n. n ≡ a + b) }
 {
