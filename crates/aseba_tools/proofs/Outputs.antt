@@ -74,7 +74,7 @@ without-lined f (x ∷ xs) = rw (bare f x, without-lined f xs) refl
 meant : (source : meaning.Program) (program : Program) (ticks : ℕ) → IsProgram source program → IsMeant source ticks (sim_text source.project program ticks)
 meant source program ticks is =
     let words = program.image.words in
-    let runs = is.runs ticks in
+    let runs = is.code.runs ticks in
     record {
       words = words;
       are_words = is.words;
@@ -84,6 +84,8 @@ meant source program ticks is =
           ∙ ap (λ t. code_line words ++ lines_text t) runs.lines_same;
       paced = runs.paced;
       alike = sym (without-lined _ (table_lines source.project (layout_of source) words [] ticks)) ∙ ap without_lines runs.lines_same;
+      lines = program.image.lines;
+      code = is.code;
     }
 
 meant-of : (project : Project) (text : List ℕ) (program : Program) (ticks : ℕ) → IsCompiled project text program → IsMeantOf project text ticks (sim_text project program ticks)

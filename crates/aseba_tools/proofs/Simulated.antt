@@ -1,19 +1,15 @@
 -- The parts of what `sim` writes, one after the other.
-use Rattle.std.proofs.Common.{◌≡◌, refl, ℕ, ℤ, List, [], ◌∷◌, ◌++◌, map, take, drop, ap, sym, ◌∙◌, append_assoc}
+use Rattle.std.proofs.Common.{◌≡◌, refl, ℕ, ℤ, List, [], ◌∷◌, ◌++◌, ap, sym, ◌∙◌, append_assoc}
 use Rattle.aseba_tree.specs.Code.{Project}
 use Rattle.aseba_tree.specs.Layout as tree
-use Rattle.aseba_tree.specs.Line.{line_by, lines_text, var, end}
+use Rattle.aseba_tree.specs.Line.{lines_text, end}
 use Rattle.aseba_vm.specs.State.{State}
 use Rattle.aseba_codegen.specs.Table.{var_lines}
+use Rattle.aseba_codegen.proofs.Lined.{vars-kept}
 use Rattle.aseba_compile.specs.declared.program.Program.{Program}
 use Rattle.aseba_tools.specs.SimText.{layout_with, own_places, ticks_of, told_text, run_text, ending_text, IsAt}
 use Rattle.aseba_tools.specs.declared.lines.Moment.{Moment}
 use Rattle.aseba_tools.proofs.Writing.{told_text-append}
-
--- the lines of variables tell no line of the source
-vars-kept : (f : ℕ → ℕ) (cells : List ℤ) (vs : List tree.Placed) → map (line_by f) (var_lines cells vs) ≡ var_lines cells vs
-vars-kept f cells [] = refl
-vars-kept f cells (v ∷ vs) = ap (λ t. var v.name (take v.size (drop v.start cells)) ∷ t) (vars-kept f cells vs)
 
 ending-told : (lines : List ℕ) (vs : List tree.Placed) (cells : List ℤ) (moment : Moment)
     → lines_text (var_lines cells vs) ++ lines_text (end moment.ticks moment.effects ∷ []) ≡ told_text lines (var_lines cells vs ++ end moment.ticks moment.effects ∷ [])

@@ -2,7 +2,7 @@
 use Rattle.std.proofs.Common.{◌≡◌, ◌≤◌, length-append, ℕ, ◌-◌, List, [], ◌∷◌, ◌++◌, length, map, take, Option, None, Some, Result, Ok, Err, OnOk, OnErr, is_err, true, false, ◌∙◌, ap, sym, arith, refl, subst, append_assoc, append-nil, codes}
 use Rattle.aseba_edge.specs.declared.sink.PutFault.{PutFault}
 use Rattle.aseba_edge.specs.Counts.{Counts}
-use Rattle.aseba_tools.specs.Ended.{Told}
+use Rattle.aseba_tools.specs.Ended.{MessagePut}
 use Rattle.aseba_edge.specs.Sink.{and_then, grown, Took, TookFewer, TookFirst}
 use Rattle.aseba_edge.proofs.Puts.{fewer_after, first_of_more, take_past}
 use Rattle.aseba_tree.specs.Line.{Line, line_by, lines_text, line_text}
@@ -86,6 +86,6 @@ module _ (before mid after : Option (List ℕ)) (first second whole : List ℕ) 
   both_taken took more = subst (λ (t : List ℕ). Took before t after) parts (took_after before mid after first second took more)
 
 -- a message was told, whether a put failed or not
-pub told : {T : Type 0} (r : Result T PutFault) (before after : Option (List ℕ)) (faults_before faults_after : ℕ) (text message : List ℕ) → text ≡ message → OnOk r (Took before text after) → OnErr r (TookFirst before text after) → Counts (is_err r) faults_before faults_after → Told before message after faults_before faults_after
+pub told : {T : Type 0} (r : Result T PutFault) (before after : Option (List ℕ)) (faults_before faults_after : ℕ) (text message : List ℕ) → text ≡ message → OnOk r (Took before text after) → OnErr r (TookFirst before text after) → Counts (is_err r) faults_before faults_after → MessagePut before message after faults_before faults_after
 told (Ok x) before after f g text message e w p counts = record { failed = false; count = counts; took = subst (λ (t : List ℕ). Took before t after) e w }
 told (Err x) before after f g text message e w p counts = record { failed = true; count = counts; took = subst (λ (t : List ℕ). TookFirst before t after) e p }

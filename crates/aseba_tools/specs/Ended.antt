@@ -62,8 +62,8 @@ abbrev pub Simulated : (word source : List ℕ) → (List ℕ → Option (Option
 Simulated word source files ticks before after status =
     (NoProject word (files word) status × (after ≡ before)) ⊎ RanOn word source files ticks before after status
 
--- a message was put: all of it was taken, or where a put failed its first bytes
-pub record Told (before : Option (List ℕ)) (message : List ℕ) (after : Option (List ℕ)) (faults_before faults_after : ℕ) : Type 0 where
+-- what came of a message: the sink took all of it, or where a put failed its first bytes
+pub record MessagePut (before : Option (List ℕ)) (message : List ℕ) (after : Option (List ℕ)) (faults_before faults_after : ℕ) : Type 0 where
   pub failed : Bool
   pub count : Counts failed faults_before faults_after
   pub took : MatchBool failed (TookFirst before message after) (Took before message after)

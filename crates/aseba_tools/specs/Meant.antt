@@ -10,7 +10,7 @@ use Rattle.aseba_tree.specs.Soundness.{Sound}
 use Rattle.aseba_codegen.specs.Table.{layout_of, table_lines, table_beats}
 use Rattle.aseba_compile.specs.declared.refusal.Refusal.{Refusal}
 use Rattle.aseba_compile.specs.declared.refusal.Refusal.TheVariants.{Mem}
-use Rattle.aseba_compile.specs.Compiled.{IsRefused}
+use Rattle.aseba_compile.specs.Compiled.{IsCodeOf, IsRefused}
 use Rattle.aseba_compile.specs.Reading.{IsOnlyTree}
 use Rattle.aseba_compile.specs.Straight.{has_only_built_forms}
 use Rattle.aseba_tools.specs.SimText.{code_line}
@@ -22,7 +22,8 @@ abbrev pub without_lines : List Line → List Line
 without_lines told = map (line_by (λ line. 0)) told
 
 -- The text of a run: the line of some words that fit the node, and then what the source means, where a step is done at each tick that is an effect of these
--- words. Such ticks keep the source's pace, and the machine alone, without the source, tells the same of the words, but for lines of the source.
+-- words. Such ticks keep the source's pace, and the machine alone, without the source, tells the same of the words, but for lines of the source. With some lines
+-- the words are code of the source, however long they run.
 pub record IsMeant (program : Program) (ticks : ℕ) (text : List ℕ) : Type 0 where
   pub words : List ℕ
   pub are_words : All (λ word. word < 65536) words
@@ -30,6 +31,8 @@ pub record IsMeant (program : Program) (ticks : ℕ) (text : List ℕ) : Type 0 
   pub text_is : text ≡ code_line words ++ lines_text (lines_of program [] (table_beats program.project (layout_of program) words [] ticks))
   pub paced : Paced (source_weight program) program [] (table_beats program.project (layout_of program) words [] ticks)
   pub alike : without_lines (table_lines program.project (layout_of program) words [] ticks) ≡ without_lines (lines_of program [] (table_beats program.project (layout_of program) words [] ticks))
+  pub lines : List ℕ
+  pub code : IsCodeOf program words lines
 
 -- the text of a run of the one tree that a source's text spells, which is sound and has only forms that are compiled
 pub record IsMeantOf (project : Project) (text : List ℕ) (ticks : ℕ) (written : List ℕ) : Type 0 where
@@ -51,15 +54,15 @@ pub record WroteFirst (project : Project) (text : List ℕ) (ticks : ℕ) (befor
   pub meant : IsMeantOf project text ticks written
   pub took : TookFirst before written after
 
--- a refusal of the text other than want of memory, which has a status of its own
-abbrev pub IsTold : Project → List ℕ → Refusal → Type 0
-IsTold project text Mem = ⊥
-IsTold project text refusal = IsRefused project text refusal
+-- why the text is refused; want of memory is no such reason, since it has a status of its own
+abbrev pub IsReason : Project → List ℕ → Refusal → Type 0
+IsReason project text Mem = ⊥
+IsReason project text refusal = IsRefused project text refusal
 
 -- How the text of a source was run, by the status. Where memory didn't suffice it may not have been compiled.
 abbrev pub RanText : Project → List ℕ → ℕ → (before after : Option (List ℕ)) → Status → Type 0
 RanText project text ticks before after Done = Wrote project text ticks before after
-RanText project text ticks before after (Refused refusal) = IsTold project text refusal × (after ≡ before)
+RanText project text ticks before after (Refused refusal) = IsReason project text refusal × (after ≡ before)
 RanText project text ticks before after WriteFault = WroteFirst project text ticks before after
 RanText project text ticks before after Memory = (after ≡ before) ⊎ WroteFirst project text ticks before after
 RanText project text ticks before after _ = ⊥

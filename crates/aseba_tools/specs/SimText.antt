@@ -22,7 +22,7 @@ layout_with project program = record { node = placed_from 0 project.node.variabl
 abbrev pub told_text : List ℕ → List Line → List ℕ
 told_text lines told = lines_text (map (line_by (slice_index lines)) told)
 
--- a run that has told nothing yet, at a moment
+-- a run that has told nothing so far, at a moment
 abbrev pub silent : Moment → State → Run
 silent moment machine = record { ticks = moment.ticks; effects = moment.effects; machine = machine; lines = [] }
 

@@ -57,7 +57,7 @@ pub fn dump_command(words: &[String]) -> Option<&str>
     if tool.as_str() != "dump" || raw.as_str() != "--raw" {
         return None;
     }
-    // A link begins so, and none is read yet.
+    // A link begins so, and no tool reads one so far.
     if file.as_bytes().starts_with(b"tcp:") {
         return None;
     }

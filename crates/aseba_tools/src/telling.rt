@@ -7,7 +7,7 @@ mod unsound;
 ghost use Rattle.std.specs.Prelude.{◌≡◌, [], ◌++◌, codes, is_err, OnOk, OnErr};
 ghost use Rattle.aseba_edge.specs.Counts.{Counts};
 ghost use Rattle.aseba_edge.specs.Sink.{Took, TookFirst};
-ghost use Rattle.aseba_tools.specs.Ended.{Told};
+ghost use Rattle.aseba_tools.specs.Ended.{MessagePut};
 ghost use Rattle.aseba_tools.specs.StatusText.{message_of};
 
 use crate::status::Status;
@@ -26,7 +26,7 @@ struct Message<'a> {
 
 /// Puts the line about a status: none where all was done. A fault of the sink changes nothing else.
 pub fn tell<E: Sink>(status: &Status, err: &mut E)
-    ensures { Told (E.taken err.old) (message_of status.now) (E.taken err.new) (E.faults err.old) (E.faults err.new) }
+    ensures { MessagePut (E.taken err.old) (message_of status.now) (E.taken err.new) (E.faults err.old) (E.faults err.new) }
 {
     let mut line = Line::new();
     let message = message_about(status, &mut line);

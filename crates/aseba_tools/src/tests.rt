@@ -147,6 +147,8 @@ fn texts_that_are_no_program(rt: HostRuntime) -> Result<(), Fail> {
         ("var x = 1 +", "1:12 Syntax"),
         ("var x = 1\nx = 2 var y", "2:7 Syntax"),
         ("emit ping 1", "1:11 Syntax"),
+        ("var x = ", "1:9 Syntax"),
+        ("x = 40000", "1:5 BadNumber"),
         ("var x = 32768", "1:9 BadNumber"),
         ("var x = 12ab", "1:9 BadNumber"),
         ("var x\n\u{e9}", "2:1 BadByte"),
@@ -279,6 +281,23 @@ fn sources_that_are_too_large(rt: HostRuntime) -> Result<(), Fail> {
         b"aseba: refused CodeFull need 2049 have 2048\n".as_slice()
     );
     Ok(())
+}
+
+#[test]
+fn variables_fill_the_node(rt: HostRuntime) -> Result<(), Fail> {
+    // The node has 1024 cells, 34 of them its own.
+    let ran = ran_with(rt.alloc(), "sim|default|x.aseba|5", b"var a[990]", 0, 3000)?;
+    let mut written = repeated(rt.alloc(), "code 0003 ffff 0003 0000\nvar a", " 0", 990)?;
+    written.push_str("\nend 5 1\n")?;
+    assert_eq!(rt; ran.number, 0);
+    assert_eq!(rt; ran.out.bytes(), written.as_bytes());
+    let mut text = String::new(rt.alloc());
+    for place in 0..991 {
+        let line = format!(in rt.alloc(); "var v{place}\n")?;
+        text.push_str(&line)?;
+    }
+    let told = [(text.as_str(), "VariablesFull need 1025 have 1024")];
+    all_refused(rt.alloc(), &rt, &told)
 }
 
 #[test]
@@ -439,6 +458,7 @@ fn frames_are_dumped(rt: HostRuntime) -> Result<(), Fail> {
         (&[], 0, b"", ""),
         (&ONE[..5], 0, b"rest 5\n", ""),
         (&bad[10..12], 10, b"", "aseba: bad frame at 0\n"),
+        (&bad[..12], 10, ONE_LINE, "aseba: bad frame at 10\n"),
         (&bad, 10, ONE_LINE, "aseba: bad frame at 10\n"),
         (&[0, 0, 7, 0, 0xcd, 0xab], 0, b"0 7 raw abcd -\n", ""),
     ] {

@@ -2,7 +2,7 @@ ghost use Rattle.std.specs.Prelude.{◌≡◌, ◌↔◌, false, ℕ, List, None
 ghost use Rattle.aseba_edge.specs.Counts.{Counts};
 ghost use Rattle.aseba_tools.specs.Command.{IsSim, IsDump, IsNoCommand};
 ghost use Rattle.aseba_tools.specs.Dumped.{Dumped};
-ghost use Rattle.aseba_tools.specs.Ended.{Simulated, Told, is_read_fault, is_write_fault};
+ghost use Rattle.aseba_tools.specs.Ended.{Simulated, MessagePut, is_read_fault, is_write_fault};
 ghost use Rattle.aseba_tools.specs.StatusText.{message_of};
 
 use crate::command::{dump_command, sim_command};
@@ -26,7 +26,7 @@ pub struct Ran<I, Q, O> {
 }
 
 /// Does what the words of a command line ask for, and tells on `err` how it ended. The words leave
-/// out the program's name. There are two tools yet, `sim PROJECT SOURCE TICKS` and
+/// out the program's name. There are two tools so far, `sim PROJECT SOURCE TICKS` and
 /// `dump FILE --raw`, which ask neither the dialer nor the clock for anything.
 pub fn run<F: Files, D: Dialer, S: Sink, E: Sink, C: Clock>(
     alloc: Global,
@@ -47,7 +47,7 @@ pub fn run<F: Files, D: Dialer, S: Sink, E: Sink, C: Clock>(
     ensures nothing_for_usage { result.status ≡ Status.Usage → S.taken out.new ≡ S.taken out.old }
     ensures read_fault { Counts (is_read_fault result.status) (F.faults files.old) (F.faults files.new) }
     ensures write_fault { Counts (is_write_fault result.status) (S.faults out.old) (S.faults out.new) }
-    ensures told { Told (E.taken err.old) (message_of result.status) (E.taken err.new) (E.faults err.old) (E.faults err.new) }
+    ensures told { MessagePut (E.taken err.old) (message_of result.status) (E.taken err.new) (E.faults err.old) (E.faults err.new) }
     ensures files { F.contents files.new ≡ F.contents files.old }
     ensures dialer { dialer.new ≡ dialer.old }
     ensures clock { clock.new ≡ clock.old }
