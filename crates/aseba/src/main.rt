@@ -19,20 +19,31 @@ fn main(rt: HostRuntime) -> ExitCode {
     let tools = Builder::new().stack_size(STACK);
     let number = match tools.spawn(&rt, move || run_words(&rt)) {
         Ok(thread) => thread.join(&rt),
-        Err(_) => {
-            // Where this can't be written either, the status is all that can be told.
-            let _ = WriterSink::new(rt.stderr()).put(b"aseba: out of memory\n");
-            Status::Memory.number()
-        }
+        Err(_) => out_of_memory(&rt),
     };
     ExitCode::from(number)
+}
+
+/// Tells that memory didn't suffice, and answers the exit status.
+fn out_of_memory(rt: &HostRuntime) -> u8 {
+    // Where this can't be written either, the status is all that can be told.
+    let _ = WriterSink::new(rt.stderr()).put(b"aseba: out of memory\n");
+    Status::Memory.number()
 }
 
 /// Runs the tools on the program's words, and answers the exit status.
 fn run_words(rt: &HostRuntime) -> u8 {
     let alloc = rt.alloc();
-    // Words that can't be read are no command line, as no words are.
-    let words = words(rt).unwrap_or(Vec::new(alloc));
+    let words = match words(rt) {
+        Ok(words) => words,
+        Err(error) => {
+            if error.kind() == io::ErrorKind::OutOfMemory {
+                return out_of_memory(rt);
+            }
+            // Words that can't be read are no command line, as no words are.
+            Vec::new(alloc)
+        }
+    };
     let mut files = SystemFiles::new(rt);
     let mut dialer = NoDialer::new();
     let mut out = WriterSink::new(rt.stdout());
