@@ -1,7 +1,5 @@
-pub mod FewTokens
 pub mod OnlyTree
 pub mod Programs
-pub mod SpelledTree
 pub mod StraightBuilt
 pub mod StraightCells
 pub mod StraightCompiled

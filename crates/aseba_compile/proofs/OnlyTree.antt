@@ -16,7 +16,7 @@ use Rattle.aseba_parser.specs.declared.error.SyntaxError.TheVariants as syntax
 use Rattle.aseba_compile.specs.Reading.{Reads, IsOnlyTree, IsTextRefused, lex_refusal, syntax_refusal}
 
 pub only_tree : (project : Project) (text : List ℕ) (tokens slice : List Token) (end : Pos) (source : Source) → slice ≡ tokens → Tokens text tokens → lexer.IsDecided text
-    → parser.IsTree project slice source → parser.IsDecided project slice end → IsOnlyTree project text source
+    → parser.IsTreeOf project slice source → parser.IsDecided project slice end → IsOnlyTree project text source
 only_tree project text tokens slice end source e lexed cut tree decided = record {
   reads = record { tokens = tokens; lexed = lexed; spelled = subst (λ (ts : List Token). Spells project source ts) e tree.spelled };
   well = subst (λ (ts : List Token). parser.IsNestedWell project ts) e tree.well;

@@ -8,6 +8,7 @@ use Rattle.aseba_tree.specs.Lines.{Moment, moments, begin_of, is_one_handler, wi
 use Rattle.aseba_codegen.specs.CoreRun.{CoreMoment, core_moments, core_begin_of, is_one_core_handler, CorePaced}
 use Rattle.aseba_compile.specs.Straight.{straight_program}
 use Rattle.aseba_tree.proofs.SizeLaws.{both_left, both_right}
+use Rattle.aseba_compile.proofs.StraightNames.{not-true}
 use Rattle.aseba_compile.proofs.StraightRuns.{RunAlike, seen, moments-alike, all-seen, any-seen}
 
 one-handler-seen : (ms : List Moment) → is_one_handler ms ≡ is_one_core_handler (map seen ms)
@@ -47,10 +48,6 @@ drop-shorter p zero n ms h e = refl
 drop-shorter p (suc m) zero ms h e = absurd (let no : ⊥ = omega arith in no)
 drop-shorter p (suc m) (suc n) [] h e = refl
 drop-shorter p (suc m) (suc n) (x ∷ ms) h e = none-shorter p m n ms (omega arith) e
-
-not-true : (b : Bool) → not b ≡ true → b ≡ false
-not-true true e = cc
-not-true false e = refl
 
 one-shorter : (m n : ℕ) (ms : List CoreMoment) → m ≤ n → is_one_core_handler (take n ms) ≡ true → is_one_core_handler (take m ms) ≡ true
 one-shorter m n ms h e =

@@ -1,12 +1,19 @@
 -- A source of straight lines with names that are known.
+use Rattle.std.proofs.Common.{refl}
 use Rattle.std.specs.Prelude.{◌≡◌, ℕ, Bool, true, not, ◌&&◌, nat_eq, List, [], ◌∷◌, ◌++◌, bytes_eq, find, Option, Some, None, is_some}
 use Rattle.std.specs.List.{list_any}
-use Rattle.aseba_tree.specs.Code.{Name, Stmts, Sized, Const, Project}
+use Rattle.aseba_tree.specs.Code.{Name, Part, all, at, span, Stmts, Sized, Const, Project}
 use Rattle.aseba_tree.specs.State.{Program, init_code, node_variables, declared}
 use Rattle.aseba_tree.specs.CoreStep.{address_of}
 use Rattle.aseba_tree.specs.Layout.{variables}
-use Rattle.aseba_compile.specs.Straight.{is_cell, are_straight}
+use Rattle.aseba_compile.specs.Straight.{is_all, is_cell, are_straight}
 use Rattle.aseba_compile.specs.StraightRun.{HasCellConstants}
+
+-- the part of a target that is the whole variable
+pub all_part : (part : Part) → is_all part ≡ true → part ≡ all
+all_part all e = refl
+all_part (at i) e = cc
+all_part (span c d) e = cc
 
 abbrev pub constant_named : List Const → Name → Option Const
 constant_named consts name = find (λ c. bytes_eq c.name name) consts

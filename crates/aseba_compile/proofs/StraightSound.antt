@@ -3,6 +3,7 @@ use Rattle.std.proofs.Common.{◌≡◌, refl, sym, ◌∙◌, ap, subst, ℕ, �
 use Rattle.std.specs.Prelude.{cond, nat_eq, sum_by, bytes_eq, find, map, filter_map, flat_map, option_map, option_and_then, unwrap_or, All}
 use Rattle.std.specs.List.{list_any, list_all}
 use Rattle.std.proofs.lemmas.Bool.{eqb-true, le-leb}
+use Rattle.std.proofs.lemmas.List.{map-append}
 use Rattle.std.proofs.lemmas.List.Sums.{list_all-from_AllPass}
 use Rattle.std.proofs.lemmas.Slice.Eq.{bytes_eq-Decides}
 use Rattle.aseba_words.specs.declared.operators.Binary.{Binary}
@@ -23,7 +24,7 @@ use Rattle.aseba_tree.proofs.ConstantLaws.{known, constant_is_value, same_consts
 use Rattle.aseba_compile.specs.Straight.{has_one_cell, is_cell, any, adds, is_sum, is_sum_form, is_all, is_straight_form, are_straight, has_no_parts, has_only_built_forms}
 use Rattle.aseba_compile.specs.StraightRun.{HasCellConstants, Fits}
 use Rattle.aseba_compile.proofs.StraightNames.{new-address, not-true}
-use Rattle.aseba_compile.proofs.StraightShape.{constant_named, has_value, is_value, has_event, are_named, are_new, IsStraight}
+use Rattle.aseba_compile.proofs.StraightShape.{all_part, constant_named, has_value, is_value, has_event, are_named, are_new, IsStraight}
 
 -- Names
 
@@ -133,12 +134,6 @@ assigned-named consts vs place (expr first own form) h s e d =
 abbrev world_with : Program → List Name → World
 world_with program subs = record { scope = scope_of program.project.consts (variables program); project = program.project; subs = subs }
 
--- the part of a target that is the whole variable
-all_part : (part : Part) → is_all part ≡ true → part ≡ all
-all_part all e = refl
-all_part (at i) e = cc
-all_part (span c d) e = cc
-
 target-named : (program : Program) (subs : List Name) (place tp : Place) (name : Name) (part : Part) (e : Expr) → EachKnown (map known (variables program)) → part ≡ all → is_cell (variables program) name ≡ true → is_sum any e ≡ true
     → assignment_faults (scope_of program.project.consts (variables program)) place (record { place = tp; name = name; part = part }) e ≡ [] → is_sum (is_value program.project.consts (variables program)) e ≡ true
 target-named program subs place tp name part e h p c s f =
@@ -206,10 +201,6 @@ given-size scope (Some e) h = by_value (constant_value scope e) refl h
     by_value : (o : Option ℤ) → constant_value scope e ≡ o → HasCells (size_in_range o) → size_in_range o ≡ Some (as_place (constant scope.consts e))
     by_value None q k = absurd k
     by_value (Some v) q k = in_range_value v k ∙ ap (λ a. Some (as_place a)) (sym (constant_is_value scope e v q))
-
-map-append : {A B : Type 0} (g : A → B) (xs ys : List A) → map g (xs ++ ys) ≡ map g xs ++ map g ys
-map-append g [] ys = refl
-map-append g (x ∷ xs) ys = ap (λ zs. g x ∷ zs) (map-append g xs ys)
 
 -- the scope behind a declaration
 declared-scope : (consts : List Const) (vs : List Sized) (d : Decl) → given_size (scope_of consts vs) d.size ≡ Some (declared_size consts d.size) → declaring (scope_of consts vs) d ≡ scope_of consts (vs ++ own consts d ∷ [])

@@ -18,7 +18,7 @@ use Rattle.aseba_tree.proofs.SizeLaws.{both_left, both_right}
 use Rattle.aseba_compile.specs.Straight.{is_cell, is_sum_form, is_all, is_straight_form, event_place, core_stmts_of, straight_program}
 use Rattle.aseba_compile.specs.Standing.{all_cells_of}
 use Rattle.aseba_compile.proofs.StraightCells.{Laid, put-flat, laid-put, held-put, held-set}
-use Rattle.aseba_compile.proofs.StraightShape.{is_value, has_event, are_named}
+use Rattle.aseba_compile.proofs.StraightShape.{all_part, is_value, has_event, are_named}
 use Rattle.aseba_compile.proofs.StraightValues.{cell_place, OneCell, one_cell, Valued, sum-valued}
 
 -- the state in which statements are to be done, and the one in which nothing is
@@ -85,12 +85,6 @@ core_step-store program cells bits line a e ss v hv ha = rw (ha, hv, held-set ce
 
 core_value-of : (program : Program) (cells : Cells) (first place : Place) (form : Form) (h : Valued program cells form) → element_of program (expr first place form) ≡ h.core
 core_value-of program cells first place form h = rw h.element refl
-
--- the part of a target that is the whole variable
-pub all_part : (part : Part) → is_all part ≡ true → part ≡ all
-all_part all e = refl
-all_part (at i) e = cc
-all_part (span c d) e = cc
 
 places-cell : (program : Program) (cells : Cells) (place : Place) (name : Name) (part : Part) (a : ℕ) → part ≡ all → OneCell cells (variables program) name a
     → places program.project.consts cells (record { place = place; name = name; part = part }) ≡ Ok (0 ∷ [])

@@ -1,4 +1,4 @@
--- Sources of straight lines, as far as their forms go: variables of one cell, sums, and events without an argument; and the core of each.
+-- Straight sources: which forms they have (a variable of one cell that takes a sum, and an event without an argument that is sent), and the core of each.
 use Rattle.std.specs.Prelude.{ℕ, Bool, true, false, ◌&&◌, nat_eq, List, [], ◌∷◌, bytes_eq, Option, Some, None}
 use Rattle.std.specs.List.{position_or_len}
 use Rattle.aseba_words.specs.declared.operators.Binary.{Binary}
@@ -98,7 +98,7 @@ abbrev pub core_stmts_of : Program → Stmts → CoreStmts
 core_stmts_of program no_stmts = no_core
 core_stmts_of program (stmts s ss) = core_stmts (core_stmt_of program s) (core_stmts_of program ss)
 
--- the core of a source of straight lines: a store for each sum, and a sending for each event
+-- the core of a straight source: a store for each sum, and a sending for each event
 abbrev pub straight_core : Program → Core
 straight_core program = record {
   init = core_stmts_of program (init_code program.source);

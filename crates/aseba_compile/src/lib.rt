@@ -1,5 +1,5 @@
-//! The chain of passes from the text of a source to its words. So far it compiles only sources of
-//! straight lines.
+//! The chain of passes from the text of a source to its words. So far it compiles only sources
+//! without branches, loops, handlers and subroutines.
 #![tactic(auto)]
 
 mod passes;

@@ -1,5 +1,5 @@
-//! Sources of straight lines: the core and the words of each sound source that has only forms which
-//! are compiled so far.
+//! Sources without branches, loops, handlers and subroutines: the core and the words of each sound
+//! source that has only forms which are compiled so far.
 
 mod built;
 mod elements;

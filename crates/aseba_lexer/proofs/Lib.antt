@@ -1,4 +1,5 @@
 pub mod CutLaws
+pub mod FewTokens
 pub mod FoundLaws
 pub mod NumberLaws
 pub mod NumberValue

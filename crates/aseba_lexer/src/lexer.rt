@@ -13,11 +13,13 @@ use aseba_tree::{Pos, Token, TokenKind};
 use aseba_words::List;
 use std::alloc::Global;
 
-/// The tokens of a text, each with the place of its first byte, in time linear in the text. The
-/// error of a text that has none tells of the first place where nothing begins.
+/// The tokens of a text, each with the place of its first byte, in time linear in the text. They
+/// are no more than its bytes. The error of a text that has none tells of the first place where
+/// nothing begins.
 pub fn lex(alloc: Global, text: &[u8]) -> Result<List<Token>, LexError>
     requires { length text.now < 4294967295 }
     ensures tokens { IfOk result (λ tokens. Tokens text.now tokens) }
+    ensures few { IfOk result (λ tokens. length tokens ≤ length text.now) }
     ensures fault { IfErr result (λ error. TellsFault text.now error) }
     ensures decided { IsDecided text.now }
 {

@@ -26,4 +26,5 @@ pub mod Parses
 pub mod Sound
 pub mod SoundExpr
 pub mod SoundStmt
+pub mod SpelledTree
 pub mod Steps

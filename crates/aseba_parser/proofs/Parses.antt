@@ -8,7 +8,7 @@ use Rattle.aseba_tree.specs.Code.{Source, Project}
 use Rattle.aseba_tree.specs.Spells.{Spells, Begins}
 use Rattle.aseba_tree.specs.Nest.{nests, Nested, deepest, TooDeepAt, SyntaxAt}
 use Rattle.aseba_parser.specs.Reading.{Read, taken, wrong, deep, next, is_key, all_of, block_of, decl_read, stmts_read, begins_part, part_of, the_end, program_read}
-use Rattle.aseba_parser.specs.Parsed.{IsTree, IsNestedWell, IsDecided, place_of}
+use Rattle.aseba_parser.specs.Parsed.{IsTreeOf, IsNestedWell, IsDecided, place_of}
 use Rattle.aseba_parser.proofs.Laws.{Means, first_above, outcome, IsLocalAt, IsLocal, Climbs}
 use Rattle.aseba_parser.proofs.Sound.{each_read_is_spelled}
 use Rattle.aseba_parser.proofs.Complete.{each_spelled_is_read}
@@ -16,7 +16,7 @@ use Rattle.aseba_parser.proofs.Local.{reading_is_local}
 use Rattle.aseba_parser.proofs.Climb.{nests_climb}
 
 -- The first nest above a depth
-abbrev above_by : Bool → Option ℕ → Option ℕ
+abbrev pub above_by : Bool → Option ℕ → Option ℕ
 above_by b o = elim b [ true ↦ Some 0 | false ↦ elim o [ None ↦ None | Some k ↦ Some (suc k) ] ]
 
 above_at : (d : ℕ) (ns : List ℕ) (i n : ℕ) → slice_get ns i ≡ Some n → d < n → (j : ℕ) × (first_above d ns ≡ Some j) × (j ≤ i)
@@ -306,7 +306,7 @@ lawful project depth = record {
 }
 
 -- What each answer says of the tokens
-tells_tree : {project : Project} {read : List Token → Read Source} → Reads project deepest read → (tokens : List Token) (source : Source) (rest : List Token) → read tokens ≡ taken source rest → IsTree project tokens source
+tells_tree : {project : Project} {read : List Token → Read Source} → Reads project deepest read → (tokens : List Token) (source : Source) (rest : List Token) → read tokens ≡ taken source rest → IsTreeOf project tokens source
 tells_tree laws tokens source rest e = record { spelled = read_tree laws tokens source (e ∙ ap (λ z. taken source z) (laws.whole tokens source rest e)); well = not_deep laws tokens (λ other q. cc (e, q)) }
 
 tells_syntax : {project : Project} {read : List Token → Read Source} → Reads project deepest read → (tokens : List Token) (end : Pos) (rest : List Token) → read tokens ≡ wrong rest
@@ -319,13 +319,13 @@ tells_deep laws tokens end [] e = absurd (never_deep_end laws tokens e)
 tells_deep laws tokens end (t ∷ rest) e = read_deep laws (omega arith) tokens t rest e
 
 tells_one : {project : Project} {read : List Token → Read Source} → Reads project deepest read → (tokens : List Token) (end : Pos) (r : Read Source) → read tokens ≡ r
-    → ((source : Source) × IsTree project tokens source) ⊎ ((pos : Pos) × SyntaxAt project tokens end pos × IsNestedWell project tokens) ⊎ ((pos : Pos) × TooDeepAt project tokens pos)
+    → ((source : Source) × IsTreeOf project tokens source) ⊎ ((pos : Pos) × SyntaxAt project tokens end pos × IsNestedWell project tokens) ⊎ ((pos : Pos) × TooDeepAt project tokens pos)
 tells_one laws tokens end (taken source rest) e = inl (source, tells_tree laws tokens source rest e)
 tells_one laws tokens end (wrong rest) e = let s = tells_syntax laws tokens end rest e in inr (inl (place_of end rest, s.0, s.1))
 tells_one laws tokens end (deep rest) e = inr (inr (place_of end rest, tells_deep laws tokens end rest e))
 
 -- What a parse tells
-pub parsed_tree : (project : Project) (tokens : List Token) (source : Source) (rest : List Token) → program_read project 64 tokens ≡ taken source rest → IsTree project tokens source
+pub parsed_tree : (project : Project) (tokens : List Token) (source : Source) (rest : List Token) → program_read project 64 tokens ≡ taken source rest → IsTreeOf project tokens source
 parsed_tree project tokens source rest e = tells_tree (lawful project deepest) tokens source rest e
 
 pub parsed_whole : (project : Project) (tokens : List Token) (source : Source) (rest : List Token) → program_read project 64 tokens ≡ taken source rest → rest ≡ []

@@ -15,7 +15,7 @@ abbrev pub IsNestedWell : Project → List Token → Type 0
 IsNestedWell project tokens = (at : Pos) → TooDeepAt project tokens at → ⊥
 
 -- the tree that the tokens spell
-pub record IsTree (project : Project) (tokens : List Token) (source : Source) : Type 0 where
+pub record IsTreeOf (project : Project) (tokens : List Token) (source : Source) : Type 0 where
   pub spelled : Spells project source tokens
   pub well : IsNestedWell project tokens
 
@@ -27,7 +27,7 @@ TellsFault project tokens end Error.Mem = Unit {0}
 
 -- Tokens have one tree, or one fault at one place.
 pub record IsDecided (project : Project) (tokens : List Token) (end : Pos) : Type 0 where
-  pub some : ((source : Source) × IsTree project tokens source) ⊎ ((at : Pos) × SyntaxAt project tokens end at × IsNestedWell project tokens) ⊎ ((at : Pos) × TooDeepAt project tokens at)
+  pub some : ((source : Source) × IsTreeOf project tokens source) ⊎ ((at : Pos) × SyntaxAt project tokens end at × IsNestedWell project tokens) ⊎ ((at : Pos) × TooDeepAt project tokens at)
   pub one_tree : (source other : Source) → Spells project source tokens → Spells project other tokens → source ≡ other
   pub one_syntax : (at other : Pos) → SyntaxAt project tokens end at → SyntaxAt project tokens end other → at ≡ other
   pub one_depth : (at other : Pos) → TooDeepAt project tokens at → TooDeepAt project tokens other → at ≡ other

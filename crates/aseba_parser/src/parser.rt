@@ -1,7 +1,8 @@
-ghost use Rattle.std.specs.Prelude.{◌≡◌, IfOk, IfErr};
+ghost use Rattle.std.specs.Prelude.{◌≡◌, ◌≤◌, ◌<◌, length, IfOk, IfErr};
+ghost use Rattle.aseba_tree.specs.Shape.{source_count, IsTree};
 ghost use Rattle.aseba_tree.specs.View.{source_view, project_view};
 ghost use Rattle.aseba_parser.specs.Parsed as parsed;
-ghost use Rattle.aseba_parser.specs.Parsed.{IsTree, TellsFault, IsDecided};
+ghost use Rattle.aseba_parser.specs.Parsed.{IsTreeOf, TellsFault, IsDecided};
 
 use crate::error::SyntaxError;
 use crate::fault::Fault;
@@ -16,14 +17,17 @@ const DEEPEST: u8 = 64;
 /// the place after their text's last byte. The project tells which events an `emit` gives a value.
 ///
 /// An expression grows to the left by a level for each operator, so a tree can be as deep as its
-/// tokens are many: what walks or drops it needs the stack for that.
+/// tokens are many: what walks or drops it needs the stack for that. A tree has at most a node for
+/// each token, and can be checked where the tokens are fewer than 4,294,967,295.
 pub fn parse(
     alloc: Global,
     tokens: &[Token],
     end: Pos,
     project: &Project,
 ) -> Result<Source, SyntaxError>
-    ensures tree { IfOk result (λ source. IsTree (project_view project.now) tokens.now (source_view source)) }
+    ensures tree { IfOk result (λ source. IsTreeOf (project_view project.now) tokens.now (source_view source)) }
+    ensures counted { IfOk result (λ source. source_count (source_view source) ≤ length tokens.now) }
+    ensures shape { IfOk result (λ source. length tokens.now < 4294967295 → IsTree (source_view source)) }
     ensures fault { IfErr result (λ error. TellsFault (project_view project.now) tokens.now end error) }
     ensures decided { IsDecided (project_view project.now) tokens.now end }
 {

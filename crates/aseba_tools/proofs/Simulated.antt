@@ -5,7 +5,7 @@ use Rattle.aseba_tree.specs.Layout as tree
 use Rattle.aseba_tree.specs.Line.{lines_text, end}
 use Rattle.aseba_vm.specs.State.{State}
 use Rattle.aseba_codegen.specs.Table.{var_lines}
-use Rattle.aseba_codegen.proofs.Lined.{vars-kept}
+use Rattle.aseba_codegen.proofs.VarLines.{vars-kept}
 use Rattle.aseba_compile.specs.declared.program.Program.{Program}
 use Rattle.aseba_tools.specs.SimText.{layout_with, own_places, ticks_of, told_text, run_text, ending_text, IsAt}
 use Rattle.aseba_tools.specs.declared.lines.Moment.{Moment}

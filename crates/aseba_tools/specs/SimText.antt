@@ -18,7 +18,7 @@ own_places project program = drop (length project.node.variables) program.places
 abbrev pub layout_with : Project → Program → Layout
 layout_with project program = record { node = placed_from 0 project.node.variables; own = map placed_view (own_places project program); cells = program.image.temp_start }
 
--- the text of lines of a machine's run, with the source's line in the stead of a place of the code
+-- the text of lines of a machine's run, with the source's line in place of a place of the code
 abbrev pub told_text : List ℕ → List Line → List ℕ
 told_text lines told = lines_text (map (line_by (slice_index lines)) told)
 

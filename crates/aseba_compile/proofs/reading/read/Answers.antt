@@ -1,8 +1,6 @@
-use Rattle.std.proofs.Common.{◌<◌, ap, length, arith}
+use Rattle.std.proofs.Common.{ap, length, arith}
 use Rattle.aseba_tree.specs.View.{project_view, source_view}
 use Rattle.aseba_compile.specs.Reading.{IsTextRefused, syntax_refusal}
-use Rattle.aseba_compile.proofs.FewTokens.{few-tokens}
-use Rattle.aseba_compile.proofs.SpelledTree.{spelled-tree}
 use Rattle.aseba_compile.proofs.OnlyTree.{only_tree, syntax-refused, of_refusal}
 use Rattle.aseba_compile.proofs.reading.read.Goals as goal
 
@@ -19,7 +17,5 @@ returns-clause-tree c =
 
 pub returns-clause-shape : goal.returns-clause-shape
 returns-clause-shape c =
-    let few = few-tokens c.in_ok-tokens.ensures.tokens in
     let same = ap length c.as_slice.ensures in
-    let below : length c.as_slice.result.now < 4294967295 = omega (arith, few, same, c.requires) in
-    spelled-tree (project_view c.args.project.now) (source_view c.in_ok-source.source) c.as_slice.result.now c.in_ok-source.ensures.tree below
+    c.in_ok-source.ensures.shape (omega (arith, c.in_ok-tokens.ensures.few, same, c.requires))

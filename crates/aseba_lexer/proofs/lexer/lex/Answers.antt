@@ -3,6 +3,7 @@ use Rattle.std.proofs.lemmas.Grind.{common_steps}
 use Rattle.aseba_tree.specs.declared.pos.Pos.{Pos}
 use Rattle.aseba_tree.specs.Tokens.{first_place, behind, Cut, nothing}
 use Rattle.aseba_lexer.proofs.CutLaws.{is-decided, step-cuts, step-faults, all-cut}
+use Rattle.aseba_lexer.proofs.FewTokens.{few-tokens}
 use Rattle.aseba_lexer.proofs.lexer.lex.Goals as goal
 
 pub loop-rest-init : goal.loop-rest-init
@@ -36,3 +37,8 @@ pub returns-clause-tokens : goal.returns-clause-tokens
 returns-clause-tokens c =
     let empty : length c.loop-rest.rest.now ≤ 0 = grind (arith, common_steps) in
     all-cut c.args.text.now c.loop-rest.tokens c.loop-rest.at c.loop-rest.rest.now empty c.loop-rest.invariant.0
+
+pub returns-clause-few : goal.returns-clause-few
+returns-clause-few c =
+    let empty : length c.loop-rest.rest.now ≤ 0 = grind (arith, common_steps) in
+    few-tokens (all-cut c.args.text.now c.loop-rest.tokens c.loop-rest.at c.loop-rest.rest.now empty c.loop-rest.invariant.0)

@@ -9,6 +9,7 @@ use Rattle.aseba_parser.specs.Reading.{program_read}
 use Rattle.aseba_parser.specs.Reads.{Stops}
 use Rattle.aseba_parser.specs.Parsed.{TellsFault, error_of}
 use Rattle.aseba_parser.proofs.Parses.{parsed_tree, parsed_syntax, parsed_deep, parsed_decided}
+use Rattle.aseba_parser.proofs.SpelledTree.{spelled-count, spelled-tree}
 use Rattle.aseba_parser.proofs.parser.parse.Goals as goal
 
 tells : (project : Project) (tokens : List Token) (end : Pos) (e : Fault) → Stops (program_read project 64 tokens) e → TellsFault project tokens end (error_of end e)
@@ -18,6 +19,16 @@ tells project tokens end fault.Mem h = tt
 
 pub returns-in-Ok-clause-tree : goal.returns-in-Ok-clause-tree
 returns-in-Ok-clause-tree c = parsed_tree (project_view c.args.project.now) c.args.tokens.now (source_view c.in-Ok.source) _ c.in-Ok.ensures
+
+pub returns-in-Ok-clause-counted : goal.returns-in-Ok-clause-counted
+returns-in-Ok-clause-counted c =
+    let tree = parsed_tree (project_view c.args.project.now) c.args.tokens.now (source_view c.in-Ok.source) _ c.in-Ok.ensures in
+    spelled-count (project_view c.args.project.now) (source_view c.in-Ok.source) c.args.tokens.now tree
+
+pub returns-in-Ok-clause-shape : goal.returns-in-Ok-clause-shape
+returns-in-Ok-clause-shape c few =
+    let tree = parsed_tree (project_view c.args.project.now) c.args.tokens.now (source_view c.in-Ok.source) _ c.in-Ok.ensures in
+    spelled-tree (project_view c.args.project.now) (source_view c.in-Ok.source) c.args.tokens.now tree few
 
 pub returns-in-Ok-clause-decided : goal.returns-in-Ok-clause-decided
 returns-in-Ok-clause-decided c = parsed_decided (project_view c.args.project.now) c.args.tokens.now c.args.end

@@ -1,8 +1,8 @@
--- The tree that tokens spell, none of which is nested too deep, is one that can be checked.
+-- The tree that tokens spell, none of which is nested too deep, has at most a node for each of them, and is one that can be checked where they are not too many.
 use Rattle.std.proofs.Common.{◌≡◌, refl, sym, ◌∙◌, ap, ℕ, zero, suc, ◌+◌, ◌≤◌, ◌<◌, Bool, true, false, not, ◌&&◌, nat_lt, nat_le, List, [], ◌∷◌, ◌++◌, length, arith, Option, Some, None, length-append}
 use Rattle.std.specs.Prelude.{sum_by, flat_map, option_to_list, drop}
 use Rattle.std.specs.List.{list_all}
-use Rattle.std.proofs.lemmas.Bool.{le-leb, ltb-false}
+use Rattle.std.proofs.lemmas.Bool.{and_from, le-leb, ltb-false}
 use Rattle.std.proofs.lemmas.List.Folds.{list_all-append}
 use Rattle.std.proofs.lemmas.List.Sums.{sum_by-cons, sum_by-append}
 use Rattle.aseba_words.specs.declared.operators.Binary.{Binary}
@@ -13,7 +13,7 @@ use Rattle.aseba_tree.specs.declared.token.Sign.{Sign}
 use Rattle.aseba_tree.specs.Code.{Name, Place, Expr, expr, two, Exprs, Target, Stmt, stmt, if_then, for_do, Stmts, no_stmts, stmts, Decl, Handler, Source, Project}
 use Rattle.aseba_tree.specs.Step.{target_expr}
 use Rattle.aseba_tree.specs.Sizes.{is_of_one_cell}
-use Rattle.aseba_tree.specs.Shape.{expr_count, list_count, is_some_exprs, is_filled, are_filled, list_depth, exprs_list_depth, to_list, part_exprs, stmt_exprs, stmts_exprs, decl_exprs, source_exprs, stmt_count, stmts_count, is_step, has_operators, have_operators, IsTree}
+use Rattle.aseba_tree.specs.Shape.{expr_count, list_count, is_some_exprs, is_filled, are_filled, list_depth, exprs_list_depth, to_list, part_exprs, stmt_exprs, stmts_exprs, decl_exprs, source_exprs, stmt_count, stmts_count, source_count, is_step, has_operators, have_operators, IsTree}
 use Rattle.aseba_tree.specs.Spells.{changing, stepping, begun_at, SpellsExpr, a_number, a_target, a_list, in_parentheses, a_prefix, an_operation, a_tighter, SpellsList, the_last, one_before, SpellsTarget, all_cells, one_cell, some_cells, SpellsStep, no_step, a_step, SpellsArgument, no_argument, an_argument, SpellsArguments, no_arguments, some_arguments, SpellsStmts, nothing, an_assignment, a_change, a_bump, an_if, a_when, a_while, a_for, an_emit, a_callsub, a_call, a_return, SpellsOther, no_other, an_else, an_elseif, SpellsSize, no_size, a_size, SpellsValue, no_value, a_value, SpellsDecls, no_decls, a_decl, SpellsParts, no_parts, a_handler, a_sub, Spells}
 use Rattle.aseba_tree.specs.Nest.{inside, enclosed, expr_nests, list_nests, target_nests, step_nests, argument_nests, arguments_nests, stmts_nests, other_nests, size_nests, value_nests, decls_nests, parts_nests, nests}
 use Rattle.aseba_tree.proofs.SizeLaws.{both_left, both_right}
@@ -21,7 +21,7 @@ use Rattle.aseba_parser.specs.Parsed as parser
 use Rattle.aseba_parser.specs.Reading.{deep, program_read}
 use Rattle.aseba_parser.proofs.Laws.{first_above, outcome}
 use Rattle.aseba_parser.proofs.Complete.{each_spelled_is_read}
-use Rattle.aseba_parser.proofs.Parses.{parsed_deep}
+use Rattle.aseba_parser.proofs.Parses.{above_by, parsed_deep}
 
 -- Nests
 
@@ -64,17 +64,14 @@ is_good most e = is_filled e && nat_le (list_depth e) most
 abbrev Good : ℕ → List Expr → Type 0
 Good most es = list_all (is_good most) es ≡ true
 
-both-true : (a b : Bool) → a ≡ true → b ≡ true → (a && b) ≡ true
-both-true a b p q = rw p q
-
 good-append : (most : ℕ) (xs ys : List Expr) → Good most xs → Good most ys → Good most (xs ++ ys)
-good-append most xs ys h k = list_all-append (is_good most) xs ys ∙ both-true (list_all (is_good most) xs) (list_all (is_good most) ys) h k
+good-append most xs ys h k = list_all-append (is_good most) xs ys ∙ and_from (list_all (is_good most) xs) (list_all (is_good most) ys) h k
 
 good-one : (most : ℕ) (e : Expr) → is_good most e ≡ true → Good most (e ∷ [])
-good-one most e h = both-true (is_good most e) true h refl
+good-one most e h = and_from (is_good most e) true h refl
 
 good-cons : (most : ℕ) (e : Expr) (es : List Expr) → is_good most e ≡ true → Good most es → Good most (e ∷ es)
-good-cons most e es h k = both-true (is_good most e) (list_all (is_good most) es) h k
+good-cons most e es h k = and_from (is_good most e) (list_all (is_good most) es) h k
 
 abbrev counted : List Expr → ℕ
 counted es = sum_by expr_count es
@@ -112,7 +109,7 @@ record TargetIs (n : ℕ) (tokens : List Token) (target : Target) : Type 0 where
   few_parts : suc (counted (part_exprs target.part)) ≤ length tokens
 
 good-of : {n : ℕ} {tokens : List Token} {e : Expr} (most : ℕ) → n ≤ most → ExprIs n tokens e → is_good most e ≡ true
-good-of {n} {tokens} {e} most h i = both-true (is_filled e) (nat_le (list_depth e) most) i.filled (le-leb (list_depth e) most (let low = i.shallow in omega arith))
+good-of {n} {tokens} {e} most h i = and_from (is_filled e) (nat_le (list_depth e) most) i.filled (le-leb (list_depth e) most (let low = i.shallow in omega arith))
 
 begun-is : (n : ℕ) (tokens : List Token) (place : Place) (e : Expr) → ExprIs n tokens e → ExprIs n tokens (begun_at place e)
 begun-is n tokens place (expr first own form) h = record { filled = h.filled; shallow = h.shallow; few = h.few }
@@ -125,7 +122,7 @@ within-brackets opening closing inner tokens e = let whole = ap length e in let 
 
 two-is : (n : ℕ) (left right tokens : List Token) (t : Token) (first own : Place) (op : Binary) (l r : Expr) → tokens ≡ left ++ t ∷ right → ExprIs n left l → ExprIs n right r → ExprIs n tokens (expr first own (two op l r))
 two-is n left right tokens t first own op l r e h k = record {
-  filled = both-true (is_filled l) (is_filled r) h.filled k.filled;
+  filled = and_from (is_filled l) (is_filled r) h.filled k.filled;
   shallow = (let a = h.shallow in let b = k.shallow in omega arith);
   few = (let whole = ap length e in let long = length-append left (t ∷ right) in let a = h.few in let b = k.few in omega (arith, whole, long));
 }
@@ -138,7 +135,7 @@ mutual
       let deeper = enclosed-below n (list_nests d) h in
       let i = list-is deeper.outer d deeper.below in
       rw tree (record {
-        filled = both-true (is_some_exprs es) (are_filled es) i.some i.filled;
+        filled = and_from (is_some_exprs es) (are_filled es) i.some i.filled;
         shallow = (let low = i.shallow in let less = deeper.less in omega arith);
         few = (let few = i.few in let long = within-brackets opening closing inner tokens all in omega arith);
       })
@@ -159,7 +156,7 @@ mutual
       let i = expr-is n d h in
       rw tree (record {
         some = refl;
-        filled = both-true (is_filled e) true i.filled refl;
+        filled = and_from (is_filled e) true i.filled refl;
         shallow = (let low = i.shallow in omega arith);
         few = (let few = i.few in omega arith);
         listed = λ most k. good-one most e (good-of most k i);
@@ -172,7 +169,7 @@ mutual
       let long = length-append first (comma ∷ rest) in
       rw tree (record {
         some = refl;
-        filled = both-true (is_filled e) (are_filled others) i.filled more.filled;
+        filled = and_from (is_filled e) (are_filled others) i.filled more.filled;
         shallow = (let a = i.shallow in let b = more.shallow in omega arith);
         few = (let a = i.few in let b = more.few in omega (arith, whole, long));
         listed = λ most k. good-cons most e (to_list others) (good-of most k i) (more.listed most k);
@@ -203,7 +200,7 @@ mutual
       let long = length-append low (colon ∷ (high ++ closing ∷ [])) in
       let long_high = length-append high (closing ∷ []) in
       rw tree (record {
-        filled = both-true (is_filled c) (is_filled d) ic.filled id.filled;
+        filled = and_from (is_filled c) (is_filled d) ic.filled id.filled;
         shallow = (let a = ic.shallow in let b = id.shallow in let less = deeper.less in omega arith);
         few = (let a = ic.few in let b = id.few in omega (arith, whole_is, long, long_high));
         part = λ most k. good-cons most c (d ∷ []) (good-of most (let less = deeper.less in omega arith) ic) (good-one most d (good-of most (let less = deeper.less in omega arith) id));
@@ -263,7 +260,7 @@ record StmtIs (most own : ℕ) (s : Stmt) : Type 0 where
 in-front : (most own : ℕ) (tokens rest : List Token) (s : Stmt) (others : Stmts) → own + length rest ≤ length tokens → StmtIs most own s → StmtsAre most rest others → StmtsAre most tokens (stmts s others)
 in-front most own tokens rest s others long i more = record {
   good = good-append most (stmt_exprs s) (stmts_exprs others) i.good more.good;
-  operators = both-true (has_operators s) (have_operators others) i.operators more.operators;
+  operators = and_from (has_operators s) (have_operators others) i.operators more.operators;
   few = (let a = i.few in let b = more.few in let sum = counted-append (stmt_exprs s) (stmts_exprs others) in omega (arith, long, sum));
 }
 
@@ -324,7 +321,7 @@ branch-is : (most n : ℕ) (test inner behind : List Token) (line : ℕ) (place 
     → StmtIs most (1 + length test + length inner + length behind) (stmt line place (if_then c body other))
 branch-is most n test inner behind line place c body other k i b o = record {
   good = good-cons most c (stmts_exprs body ++ stmts_exprs other) (good-of most k i) (good-append most (stmts_exprs body) (stmts_exprs other) b.good o.good);
-  operators = both-true (have_operators body) (have_operators other) b.operators o.operators;
+  operators = and_from (have_operators body) (have_operators other) b.operators o.operators;
   few = (let x = i.few in let y = b.few in let z = o.few in let own = counted-cons c (stmts_exprs body ++ stmts_exprs other) in let sum = counted-append (stmts_exprs body) (stmts_exprs other) in omega (arith, own, sum));
 }
 
@@ -510,7 +507,7 @@ record PartsAre (most : ℕ) (tokens : List Token) (hs : List Handler) : Type 0 
 part-in-front : (most : ℕ) (word named : Token) (inner rest tokens : List Token) (h : Handler) (others : List Handler) → tokens ≡ word ∷ named ∷ (inner ++ rest) → StmtsAre most inner h.body → PartsAre most rest others → PartsAre most tokens (h ∷ others)
 part-in-front most word named inner rest tokens h others e b more = record {
   good = good-append most (stmts_exprs h.body) (flat_map (λ h. stmts_exprs h.body) others) b.good more.good;
-  operators = both-true (have_operators h.body) (list_all (λ h. have_operators h.body) others) b.operators more.operators;
+  operators = and_from (have_operators h.body) (list_all (λ h. have_operators h.body) others) b.operators more.operators;
   few = (
       let x = b.few in let y = more.few in
       let sum = counted-append (stmts_exprs h.body) (flat_map (λ h. stmts_exprs h.body) others) in
@@ -534,13 +531,32 @@ parts-are {project} {tokens} most n k (a_sub word named inner rest name body oth
 filled-of : (most : ℕ) (es : List Expr) → Good most es → list_all is_filled es ≡ true
 filled-of most [] h = refl
 filled-of most (e ∷ es) h =
-    both-true (is_filled e) (list_all is_filled es) (both_left (is_filled e) (nat_le (list_depth e) most) (both_left (is_good most e) (list_all (is_good most) es) h)) (filled-of most es (both_right (is_good most e) (list_all (is_good most) es) h))
+    and_from (is_filled e) (list_all is_filled es) (both_left (is_filled e) (nat_le (list_depth e) most) (both_left (is_good most e) (list_all (is_good most) es) h)) (filled-of most es (both_right (is_good most e) (list_all (is_good most) es) h))
 
 shallow-of : (most : ℕ) (es : List Expr) → Good most es → list_all (λ e. nat_le (list_depth e) most) es ≡ true
 shallow-of most [] h = refl
 shallow-of most (e ∷ es) h =
-    both-true (nat_le (list_depth e) most) (list_all (λ e. nat_le (list_depth e) most) es)
+    and_from (nat_le (list_depth e) most) (list_all (λ e. nat_le (list_depth e) most) es)
     (both_right (is_filled e) (nat_le (list_depth e) most) (both_left (is_good most e) (list_all (is_good most) es) h)) (shallow-of most es (both_right (is_good most e) (list_all (is_good most) es) h))
+
+-- Tokens with such nests spell no more nodes than they are.
+count-below : (project : Project) (source : Source) (tokens : List Token) (d : Spells project source tokens) → Below 64 (nests d) → source_count source ≤ length tokens
+count-below project source tokens d h =
+    let behind = below-right 64 (decls_nests d.decls) (stmts_nests d.init ++ parts_nests d.parts) h in
+    let vars = decls-are 64 64 (omega arith) d.decls (below-left 64 (decls_nests d.decls) _ h) in
+    let init = stmts-are 64 64 (omega arith) d.init (below-left 64 (stmts_nests d.init) _ behind) in
+    let parts = parts-are 64 64 (omega arith) d.parts (below-right 64 (stmts_nests d.init) (parts_nests d.parts) behind) in
+    let var_exprs = flat_map decl_exprs source.vars in
+    let part_exprs = flat_map (λ (h : Handler). stmts_exprs h.body) source.parts in
+    let sum = counted-append (var_exprs ++ stmts_exprs source.init) part_exprs in
+    let inner = counted-append var_exprs (stmts_exprs source.init) in
+    let whole_is = ap length d.in_order in
+    let long = length-append d.decl_tokens (d.init_tokens ++ d.part_tokens) in
+    let long_behind = length-append d.init_tokens d.part_tokens in
+    let a = vars.few in
+    let b = init.few in
+    let c = parts.few in
+    omega (arith, sum, inner, whole_is, long, long_behind)
 
 -- what spelled tokens with such nests are
 tree-below : (project : Project) (source : Source) (tokens : List Token) (d : Spells project source tokens) → Below 64 (nests d) → length tokens < 4294967295 → IsTree source
@@ -552,21 +568,13 @@ tree-below project source tokens d h few =
     let var_exprs = flat_map decl_exprs source.vars in
     let part_exprs = flat_map (λ (h : Handler). stmts_exprs h.body) source.parts in
     let good = good-append 64 (var_exprs ++ stmts_exprs source.init) part_exprs (good-append 64 var_exprs (stmts_exprs source.init) vars.good init.good) parts.good in
-    let sum = counted-append (var_exprs ++ stmts_exprs source.init) part_exprs in
-    let inner = counted-append var_exprs (stmts_exprs source.init) in
-    let whole_is = ap length d.in_order in
-    let long = length-append d.decl_tokens (d.init_tokens ++ d.part_tokens) in
-    let long_behind = length-append d.init_tokens d.part_tokens in
+    let count = count-below project source tokens d h in
     record {
-      is_small = (let a = vars.few in let b = init.few in let c = parts.few in omega (arith, few, sum, inner, whole_is, long, long_behind));
+      is_small = omega (arith, few, count);
       is_filled = filled-of 64 (source_exprs source) good;
       is_shallow = shallow-of 64 (source_exprs source) good;
-      has_operators = both-true (have_operators source.init) (list_all (λ (h : Handler). have_operators h.body) source.parts) init.operators parts.operators;
+      has_operators = and_from (have_operators source.init) (list_all (λ (h : Handler). have_operators h.body) source.parts) init.operators parts.operators;
     }
-
--- the place of the first nest above a depth, where it is known whether the one in front is
-abbrev above_by : Bool → Option ℕ → Option ℕ
-above_by b o = elim b [ true ↦ Some 0 | false ↦ elim o [ None ↦ None | Some j ↦ Some (suc j) ] ]
 
 -- none of the nests is above a depth where none is found that is
 none-found : (n : ℕ) (ns : List ℕ) → first_above n ns ≡ None → Below n ns
@@ -587,7 +595,14 @@ not-deep project source tokens end d well = pick (first_above 64 (nests d)) refl
         let read : program_read project 64 tokens ≡ deep (drop k tokens ++ []) = each_spelled_is_read project source tokens d 64 ∙ ap (λ o. outcome o tokens [] source) e in
         absurd (well _ (parsed_deep project tokens end (drop k tokens ++ []) read))
 
--- The tree of tokens that are nested well, of which there are not too many.
-pub spelled-tree : (project : Project) (source : Source) (tokens : List Token) → parser.IsTree project tokens source → length tokens < 4294967295 → IsTree source
-spelled-tree project source tokens is few =
-    tree-below project source tokens is.spelled (none-found 64 (nests is.spelled) (not-deep project source tokens (record { line = 1; col = 1 }) is.spelled is.well)) few
+-- the nests of tokens that are nested well
+well-below : (project : Project) (source : Source) (tokens : List Token) (is : parser.IsTreeOf project tokens source) → Below 64 (nests is.spelled)
+well-below project source tokens is = none-found 64 (nests is.spelled) (not-deep project source tokens (record { line = 1; col = 1 }) is.spelled is.well)
+
+-- The tree of tokens that are nested well has at most a node for each of them.
+pub spelled-count : (project : Project) (source : Source) (tokens : List Token) → parser.IsTreeOf project tokens source → source_count source ≤ length tokens
+spelled-count project source tokens is = count-below project source tokens is.spelled (well-below project source tokens is)
+
+-- The tree of tokens that are nested well can be checked, where they are not too many.
+pub spelled-tree : (project : Project) (source : Source) (tokens : List Token) → parser.IsTreeOf project tokens source → length tokens < 4294967295 → IsTree source
+spelled-tree project source tokens is few = tree-below project source tokens is.spelled (well-below project source tokens is) few
