@@ -65,11 +65,11 @@ abbrev pub store_code : CoreTarget → CoreExpr → List ℕ
 store_code (into address) e = expr_code e ++ instruction 4 address ∷ []
 store_code (into_index base size i) e = expr_code e ++ expr_code i ++ instruction 6 base ∷ size ∷ []
 
--- a branch that is never taken, with the displacement from it
+-- a branch on 0 != 0, which always goes by its displacement
 abbrev pub far_jump : ℕ → List ℕ
 far_jump displacement = instruction 1 0 ∷ instruction 1 0 ∷ instruction 10 (binary_code Differ) ∷ displacement ∷ []
 
--- A jump by a displacement from its first word. In a large project it is a branch that is never taken, two words behind the first.
+-- A jump by a displacement from its first word. In a large project it is a branch that always goes by its displacement, two words behind the first.
 abbrev pub jump_code : Project → ℤ → List ℕ
 jump_code project by = if is_large project then far_jump (sixteen_bits (by -ℤ pos 2)) else instruction 9 (twelve_bits by) ∷ []
 
@@ -168,7 +168,7 @@ part_starts project core =
     let behind_init = init_start project core + core_list_words project core.init + 1 in
     if is_large project then starts_apart project (core_table_words core) behind_init core.parts else core_starts_from project behind_init core.parts
 
--- The event table: its length with itself, the number and the address of the init code, then those of the handlers.
+-- the entry of a part in the event table: the number and the address of a handler, and nothing for a subroutine
 abbrev pub handler_entry : Option ℕ → ℕ → List ℕ
 handler_entry None start = []
 handler_entry (Some event) start = event ∷ sixteen_bits (pos start) ∷ []
@@ -178,7 +178,7 @@ abbrev pub handler_entries : List ℕ → ℕ → List CorePart → List ℕ
 handler_entries starts which [] = []
 handler_entries starts which (part ∷ parts) = handler_entry part.event (slice_index starts which) ++ handler_entries starts (which + 1) parts
 
--- the first words of the code, and the entries behind them
+-- The event table: its length with itself, the number and the address of the init code, and then the entries of the handlers.
 abbrev pub table_of : ℕ → List ℕ → List ℕ
 table_of init entries = sixteen_bits (pos (3 + length entries)) ∷ 0xffff ∷ sixteen_bits (pos init) ∷ entries
 

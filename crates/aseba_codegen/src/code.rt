@@ -78,7 +78,7 @@ fn add_jump_back(code: &mut List<Coded>, project: &Project, line: u32, by: usize
     }
 }
 
-/// Adds a branch that is never taken, with its displacement.
+/// Adds a branch on 0 != 0, which always goes by its displacement.
 fn add_far(code: &mut List<Coded>, line: u32, displacement: u16) -> Result<(), Mem>
     ensures { OnOk result (code.new ≡ code.old ++ on_line line (far_jump displacement)) }
 {

@@ -28,7 +28,7 @@ pub fn begins_word(b: u8) -> bool
     begins_name(b) || is_digit(b)
 }
 
-/// The same or a dot.
+/// A letter, a digit, `_` or `.`.
 pub fn goes_on_word(b: u8) -> bool
     ensures { result ≡ tokens.is_word_byte b }
 {

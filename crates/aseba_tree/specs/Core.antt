@@ -1,4 +1,4 @@
--- A source in element form as the definitions see it: each statement stores one cell, and names are addresses.
+-- A source in element form as the definitions see it: each store is of one cell, and names are addresses.
 use Rattle.std.specs.Prelude.{ℕ, ℤ, List, Option}
 use Rattle.aseba_words.specs.declared.operators.Unary.{Unary}
 use Rattle.aseba_words.specs.declared.operators.Binary.{Binary}

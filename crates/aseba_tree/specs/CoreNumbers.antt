@@ -146,6 +146,6 @@ abbrev mutual
   core_list_weight cells no_core kept = 3
   core_list_weight cells (core_stmts s ss) kept = core_stmt_weight cells s kept (core_list_weight cells ss)
 
--- Of any so many ticks in which a handler of the core's code runs, at least one has an effect.
+-- Of any so many successive ticks in which one handler of the core's code runs, at least one has an effect.
 abbrev pub core_weight : Core → ℕ
 core_weight core = max (core_list_weight core.cells core.init 0) (greatest (map (λ part. core_list_weight core.cells part.body 0) core.parts))

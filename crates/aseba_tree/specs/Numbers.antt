@@ -301,7 +301,7 @@ abbrev mutual
   stmts_weight program no_stmts = 3
   stmts_weight program (stmts s ss) = max (stmt_weight program s) (stmts_weight program ss)
 
--- Of any so many ticks in which a handler of the source runs, at least one has an effect.
+-- Of any so many successive ticks in which one handler of the source runs, at least one has an effect.
 abbrev pub source_weight : Program → ℕ
 source_weight program = max (stmts_weight program (init_code program.source)) (greatest (map (λ h. stmts_weight program h.body) program.source.parts))
 

@@ -1,4 +1,4 @@
--- What the code's trees are as the data of the definitions. No other file of definitions names the code's types of trees.
+-- The code's trees as the data of the definitions.
 use Rattle.std.specs.Prelude.{List, [], ◌∷◌, map, option_map}
 use Rattle.aseba_tree.specs.Code as tree
 use Rattle.aseba_tree.specs.Core as core_tree

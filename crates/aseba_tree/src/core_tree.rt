@@ -5,7 +5,7 @@ use aseba_words::{Binary, List, Mem, Unary};
 use sqlite_items::Boxed;
 use std::alloc::Global;
 
-/// A source in element form: each statement stores one cell, and names are addresses.
+/// A source in element form: each store is of one cell, and names are addresses.
 #[derive(Debug, Drop)]
 pub struct Core {
     pub init: List<CoreStmt>,

@@ -4,8 +4,8 @@
 ghost use Rattle.aseba_tree.specs.State.{Program};
 ghost use Rattle.aseba_tree.specs.SoundLaws.{SoundIsFaultless, SoundHasCells, SoundIsLaidOut, ConstantHasValue, SoundHasElements};
 
-/// A source is sound exactly where it breaks no rule and neither its variables nor its
-/// subroutines lie too far behind.
+/// A source is sound exactly where it breaks no rule, its variables have room, and on a large node
+/// no subroutine begins above word 4095.
 pub fn sound_is_faultless()
     ensures { (program : Program) → SoundIsFaultless program }
 {}

@@ -1,7 +1,8 @@
 use std::alloc::{AllocError, AllocFailed};
 use thiserror::Error;
 
-/// Want of memory. Every call that takes memory may answer it, and it stands for nothing else.
+/// Want of memory. Every call that takes memory may answer it. A count that passes 64 bits is
+/// answered so too.
 #[derive(Clone, Copy, Debug, PartialEq, Eq, Error)]
 #[error("out of memory")]
 pub struct Mem;

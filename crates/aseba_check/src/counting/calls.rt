@@ -126,7 +126,7 @@ fn fresh(is_own: bool, elements: Count) -> Count
     if is_own { empty() } else { elements }
 }
 
-/// Whether an argument stands for cells of its own: those of a whole variable, or of a range.
+/// Whether an argument stands for cells that are there: those of a whole variable or of a range.
 fn is_own(names: &Table<Meaning>, argument: &Expr) -> bool
     ensures { result ≡ told.is_own (looked names.now) (expr_view argument.now) }
 {
