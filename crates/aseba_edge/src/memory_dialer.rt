@@ -1,4 +1,8 @@
-ghost use Rattle.std.specs.Prelude.{◌≡◌, ◌<◌, ◌++◌, ◌&&◌, [], IfOk, OnOk, Some, is_some, nat_lt, not, option_to_list, reverse, vec_capacity, vec_len};
+ghost use Rattle.std.specs.Prelude.{◌≡◌, ◌<◌, ◌++◌, ◌&&◌, [], IfOk, MatchResult, OnOk, Some, drop, if◌then◌else◌, is_some, nat_lt, not, option_to_list, reverse, vec_capacity, vec_len};
+ghost use Rattle.aseba_edge.specs.Counts.{Counts};
+ghost use Rattle.aseba_edge.specs.Dialer.{IsFresh, after_fault, after_link, is_refused};
+ghost use Rattle.aseba_edge.specs.MemoryDialer.{GivesDue, GivesDuePolled, dials_after, due, left_behind, links_left, polled_left};
+ghost use Rattle.aseba_edge.specs.Plan.{after_call, fails_next};
 
 use crate::dialer::{DialFault, Dialer};
 use crate::memory_in::MemoryIn;
@@ -18,7 +22,8 @@ pub(crate) struct Dial {
 }
 
 /// A dialer in memory. It gives its links in their order, and refuses where none is left. Given
-/// dials are refused too, the first being number 1.
+/// dials are refused too, the first being number 1. One for which memory doesn't suffice has its
+/// number as well, but takes no link and isn't a fault.
 #[derive(Drop)]
 pub struct MemoryDialer {
     // The next one stands last.
@@ -42,6 +47,9 @@ fn prepare(alloc: Global, dials: &mut Vec<Dial>, address: &str) -> Result<Name, 
 fn next_link<L>(links: &mut Vec<L>, fails: bool) -> Option<L>
     ensures given { links.old.items ≡ links.new.items ++ option_to_list result }
     ensures some { is_some result ≡ (not fails && nat_lt 0 (vec_len links.old)) }
+    ensures due { result ≡ due fails (reverse links.old.items) }
+    ensures left { reverse links.new.items ≡
+        (if is_some result then drop 1 (reverse links.old.items) else reverse links.old.items) }
 {
     if fails {
         return None;
@@ -60,6 +68,8 @@ impl MemoryDialer {
         ensures dials { result.dials.items ≡ [] }
         ensures links { result.links.items ≡ reverse links }
         ensures polled { result.polled.items ≡ reverse polled }
+        ensures order { links_left result ≡ links }
+        ensures polled_order { polled_left result ≡ polled }
         ensures plan { result.plan ≡ record { failing = failing; calls = 0; faults = 0 } }
     {
         let mut links = links.into_vec();
@@ -88,7 +98,23 @@ impl Dialer for MemoryDialer {
 
     ghost faults = { λ dialer. dialer.plan.faults };
 
-    fn dial(&mut self, alloc: Global, address: &str) -> Result<(MemoryIn, MemoryOut), DialFault> {
+    fn dial(&mut self, alloc: Global, address: &str) -> Result<(MemoryIn, MemoryOut), DialFault>
+        ensures fresh { IfOk result (λ link. IsFresh
+            link.0.plan.faults (Some link.0.tape) (Some link.0.mark)
+            link.1.sink.plan.faults (Some link.1.sink.bytes.items) (Some link.1.mark)) }
+        ensures asked { MatchResult result
+            (λ link. dialed_by self.new.dials.items ≡
+            after_link address.now (Some link.0.mark) (dialed_by self.old.dials.items))
+            (λ fault. dialed_by self.new.dials.items ≡
+            after_fault address.now fault (dialed_by self.old.dials.items)) }
+        ensures count { Counts (is_refused result) self.old.plan.faults self.new.plan.faults }
+        ensures due { GivesDue (due (fails_next self.old.plan) (links_left self.old)) result }
+        ensures left { links_left self.new ≡ left_behind result (links_left self.old) }
+        ensures polled { self.new.polled ≡ self.old.polled }
+        ensures dials { self.new.dials.items ≡
+            dials_after address.now (λ link. link.0.mark) result self.old.dials.items }
+        ensures plan { self.new.plan ≡ after_call (is_refused result) self.old.plan }
+    {
         let fails = self.plan.begin();
         let address = prepare(alloc, &mut self.dials, address)?;
         match next_link(&mut self.links, fails) {
@@ -110,7 +136,23 @@ impl Dialer for MemoryDialer {
         &mut self,
         alloc: Global,
         address: &str,
-    ) -> Result<(MemoryPoll, MemoryOut), DialFault> {
+    ) -> Result<(MemoryPoll, MemoryOut), DialFault>
+        ensures fresh { IfOk result (λ link. IsFresh
+            link.0.plan.faults (Some link.0.tape) (Some link.0.mark)
+            link.1.sink.plan.faults (Some link.1.sink.bytes.items) (Some link.1.mark)) }
+        ensures asked { MatchResult result
+            (λ link. dialed_by self.new.dials.items ≡
+            after_link address.now (Some link.0.mark) (dialed_by self.old.dials.items))
+            (λ fault. dialed_by self.new.dials.items ≡
+            after_fault address.now fault (dialed_by self.old.dials.items)) }
+        ensures count { Counts (is_refused result) self.old.plan.faults self.new.plan.faults }
+        ensures due { GivesDuePolled (due (fails_next self.old.plan) (polled_left self.old)) result }
+        ensures left { polled_left self.new ≡ left_behind result (polled_left self.old) }
+        ensures links { self.new.links ≡ self.old.links }
+        ensures dials { self.new.dials.items ≡
+            dials_after address.now (λ link. link.0.mark) result self.old.dials.items }
+        ensures plan { self.new.plan ≡ after_call (is_refused result) self.old.plan }
+    {
         let fails = self.plan.begin();
         let address = prepare(alloc, &mut self.dials, address)?;
         match next_link(&mut self.polled, fails) {

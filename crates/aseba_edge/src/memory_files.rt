@@ -73,7 +73,7 @@ fn named<'a>(files: &'a [MemoryFile], name: &[u8]) -> Option<&'a MemoryFile>
 
 impl Files for MemoryFiles {
     ghost use Rattle.aseba_edge.specs.MemoryFiles.{held};
-    ghost use Rattle.aseba_edge.specs.Plan.{is_named, next_call};
+    ghost use Rattle.aseba_edge.specs.Plan.{after_call, is_named, next_call};
 
     ghost contents = { λ files. Some (held files.files) };
 
@@ -85,6 +85,7 @@ impl Files for MemoryFiles {
         ensures kept { self.new.files ≡ self.old.files }
         ensures count { Counts (is_failed result) self.old.plan.faults self.new.plan.faults }
         ensures fails { is_failed result ≡ is_named self.old.plan.failing (next_call self.old.plan.calls) }
+        ensures plan { self.new.plan ≡ after_call (is_failed result) self.old.plan }
     {
         if self.plan.begin() {
             self.plan.fail();

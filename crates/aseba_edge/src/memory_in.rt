@@ -2,7 +2,7 @@ ghost use Rattle.std.specs.Prelude.{◌≡◌, ◌<◌, ◌≤◌, IfOk, IsErr, 
 ghost use Rattle.aseba_edge.specs.Counts.{Counts};
 ghost use Rattle.aseba_edge.specs.Gate.{IsOpen, IsStuck, turns_of, until_of};
 ghost use Rattle.aseba_edge.specs.Link.{after_read, is_empty, next_bytes};
-ghost use Rattle.aseba_edge.specs.Plan.{is_named, next_call};
+ghost use Rattle.aseba_edge.specs.Plan.{after_call, is_named, next_call};
 ghost use Rattle.aseba_edge.specs.Tape.{full};
 
 use crate::gate::Gate;
@@ -106,6 +106,7 @@ impl LinkIn for MemoryIn {
             IsErr result → IsStuck self.new.gate }
         ensures until { until_of self.new.gate ≡ until_of self.old.gate }
         ensures turns { turns_of self.new.gate ≤ turns_of self.old.gate }
+        ensures plan { self.new.plan ≡ after_call (is_err result) self.old.plan }
     {
         if self.plan.begin() || !self.is_open() {
             self.plan.fail();

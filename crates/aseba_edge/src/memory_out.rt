@@ -1,7 +1,8 @@
 ghost use Rattle.std.specs.Prelude.{◌≡◌, IfErr, IfOk, OnOk, Some, [], is_err, option_map, refl, vec_len};
 ghost use Rattle.aseba_edge.specs.Counts.{Counts};
-ghost use Rattle.aseba_edge.specs.Gate.{taken_of};
+ghost use Rattle.aseba_edge.specs.Gate.{taken_of, turns_of, until_of};
 ghost use Rattle.aseba_edge.specs.MemorySink.{put_answer};
+ghost use Rattle.aseba_edge.specs.Plan.{after_call};
 ghost use Rattle.aseba_edge.specs.Sink.{Took, TookFewer};
 
 use crate::gate::Gate;
@@ -69,6 +70,10 @@ impl LinkOut for MemoryOut {
         ensures answer { result ≡ put_answer self.old.sink piece.now }
         ensures told { taken_of self.new.gate ≡
             option_map (λ _. vec_len self.new.sink.bytes) self.old.gate }
+        ensures until { until_of self.new.gate ≡ until_of self.old.gate }
+        ensures turns { turns_of self.new.gate ≡ turns_of self.old.gate }
+        ensures room { self.new.sink.room ≡ self.old.sink.room }
+        ensures plan { self.new.sink.plan ≡ after_call (is_err result) self.old.sink.plan }
     {
         let answer = self.sink.put(piece);
         if let Some(gate) = &mut self.gate {
@@ -77,5 +82,7 @@ impl LinkOut for MemoryOut {
         answer
     }
 
-    fn hang_up(&mut self) {}
+    fn hang_up(&mut self)
+        ensures { self.new ≡ self.old }
+    {}
 }

@@ -1,7 +1,7 @@
 ghost use Rattle.std.specs.Prelude.{◌≡◌, ◌<◌, IfOk, Some, [], false, true, length, refl};
 ghost use Rattle.aseba_edge.specs.Counts.{Counts};
 ghost use Rattle.aseba_edge.specs.Link.{IsInRoom, IsPolled, after_poll, is_failed, next_given};
-ghost use Rattle.aseba_edge.specs.Plan.{is_named, next_call};
+ghost use Rattle.aseba_edge.specs.Plan.{after_call, is_named, next_call};
 ghost use Rattle.aseba_edge.specs.PollTape.{full};
 
 use crate::plan::Plan;
@@ -67,6 +67,7 @@ impl LinkPoll for MemoryPoll {
         ensures count { Counts (is_failed result) self.old.plan.faults self.new.plan.faults }
         ensures fails { is_failed result ≡
             is_named self.old.plan.failing (next_call self.old.plan.calls) }
+        ensures plan { self.new.plan ≡ after_call (is_failed result) self.old.plan }
     {
         if self.plan.begin() {
             self.plan.fail();

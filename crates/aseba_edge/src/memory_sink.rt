@@ -1,5 +1,6 @@
 ghost use Rattle.std.specs.Prelude.{◌≡◌, ◌≤◌, [], Some, OnOk, IfOk, IfErr, is_err, vec_len, vec_capacity};
 ghost use Rattle.aseba_edge.specs.Counts.{Counts};
+ghost use Rattle.aseba_edge.specs.Plan.{after_call};
 ghost use Rattle.aseba_edge.specs.Sink.{Took, TookFewer};
 
 use crate::plan::Plan;
@@ -62,6 +63,8 @@ impl Sink for MemorySink {
             (Some self.old.bytes.items) piece.now (Some self.new.bytes.items)) }
         ensures count { Counts (is_err result) self.old.plan.faults self.new.plan.faults }
         ensures answer { result ≡ put_answer self.old piece.now }
+        ensures room { self.new.room ≡ self.old.room }
+        ensures plan { self.new.plan ≡ after_call (is_err result) self.old.plan }
     {
         let left = self.room - self.bytes.len();
         let room = if self.plan.begin() { 0 } else { left };

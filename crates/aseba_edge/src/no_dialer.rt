@@ -1,5 +1,6 @@
 ghost use Rattle.std.specs.Prelude.{◌≡◌, ◌==◌, Err, IfErr, IsErr, None, is_err, is_ok, length, refl, true};
 ghost use Rattle.aseba_edge.specs.Counts.{Counts};
+ghost use Rattle.aseba_edge.specs.Plan.{faults_after, next_call};
 
 use crate::dialer::{DialFault, Dialer};
 use crate::link::{LinkFault, LinkIn, LinkOut};
@@ -30,6 +31,7 @@ impl NoDialer {
     fn refuse(&mut self) -> DialFault
         ensures refused { result ≡ DialFault.Refused }
         ensures count { Counts true self.old.faults self.new.faults }
+        ensures faults { self.new.faults ≡ next_call self.old.faults }
     {
         self.faults = self.faults.saturating_add(1);
         DialFault::Refused
@@ -38,7 +40,8 @@ impl NoDialer {
 
 impl NoLink {
     fn fail(&mut self)
-        ensures { Counts true self.old.faults self.new.faults }
+        ensures count { Counts true self.old.faults self.new.faults }
+        ensures faults { self.new.faults ≡ next_call self.old.faults }
     {
         let faults = self.faults;
         self.faults = faults.saturating_add(1);
@@ -59,6 +62,7 @@ impl Dialer for NoDialer {
     fn dial(&mut self, _alloc: Global, _address: &str) -> Result<(NoLink, NoLink), DialFault>
         ensures refused { result ≡ Err DialFault.Refused }
         ensures count { Counts true self.old.faults self.new.faults }
+        ensures faults { self.new.faults ≡ next_call self.old.faults }
     {
         Err(self.refuse())
     }
@@ -66,6 +70,7 @@ impl Dialer for NoDialer {
     fn dial_polled(&mut self, _alloc: Global, _address: &str) -> Result<(NoLink, NoLink), DialFault>
         ensures refused { result ≡ Err DialFault.Refused }
         ensures count { Counts true self.old.faults self.new.faults }
+        ensures faults { self.new.faults ≡ next_call self.old.faults }
     {
         Err(self.refuse())
     }
@@ -83,6 +88,7 @@ impl LinkIn for NoLink {
     fn read(&mut self, _buf: &mut [u8]) -> Result<usize, LinkFault>
         ensures fails { IsErr result }
         ensures count { Counts true self.old.faults self.new.faults }
+        ensures faults { self.new.faults ≡ next_call self.old.faults }
     {
         self.fail();
         Err(LinkFault)
@@ -102,6 +108,7 @@ impl LinkOut for NoLink {
         ensures fails { is_ok result ≡ (length piece.now == 0) }
         ensures none { IfErr result (λ fault. fault.taken ≡ 0) }
         ensures count { Counts (is_err result) self.old.faults self.new.faults }
+        ensures faults { self.new.faults ≡ faults_after (is_err result) self.old.faults }
     {
         if piece.is_empty() {
             return Ok(());
@@ -110,7 +117,9 @@ impl LinkOut for NoLink {
         Err(PutFault { taken: 0 })
     }
 
-    fn hang_up(&mut self) {}
+    fn hang_up(&mut self)
+        ensures { self.new ≡ self.old }
+    {}
 }
 
 impl LinkPoll for NoLink {
@@ -125,6 +134,7 @@ impl LinkPoll for NoLink {
     fn poll(&mut self, _buf: &mut [u8]) -> Polled
         ensures fails { result ≡ Polled.Failed }
         ensures count { Counts true self.old.faults self.new.faults }
+        ensures faults { self.new.faults ≡ next_call self.old.faults }
     {
         self.fail();
         Polled::Failed
