@@ -20,9 +20,9 @@ use Rattle.aseba_compile.specs.Straight as source
 use Rattle.aseba_compile.specs.Straight.{adds, is_sum, is_sum_form, address, event_place, core_form_of, core_stmts_of, straight_core}
 use Rattle.aseba_compile.specs.StraightRun.{HasCellConstants, Fits}
 use Rattle.aseba_compile.proofs.StraightLoad.{first_cells, first-laid}
-use Rattle.aseba_compile.proofs.StraightShape.{constant_named, has_value, is_value, has_event, are_named, IsStraight}
+use Rattle.aseba_compile.proofs.StraightShape.{all_part, constant_named, has_value, is_value, has_event, are_named, IsStraight}
 use Rattle.aseba_compile.proofs.StraightSound.{fits-straight}
-use Rattle.aseba_compile.proofs.StraightSteps.{all_part, event-name}
+use Rattle.aseba_compile.proofs.StraightSteps.{event-name}
 use Rattle.aseba_compile.proofs.StraightValues.{cell_place, one_cell}
 use Rattle.aseba_tree.proofs.SizeLaws.{both_left, both_right}
 use Rattle.aseba_tree.proofs.SoundProofs.{sound_is_faultless}
