@@ -19,7 +19,7 @@ use Rattle.aseba_check.specs.declared.facts.Meaning.{Meaning}
 use Rattle.aseba_check.specs.declared.facts.Meaning.TheVariants.{Variable, Constant}
 use Rattle.aseba_check.specs.Fits.{Fits, FitsList}
 use Rattle.aseba_check.specs.Told as told
-use Rattle.aseba_check.specs.Told.{rule_view, fault_view, pos_of, facts_of, list_facts}
+use Rattle.aseba_check.specs.Told.{rule_view, pos_of, facts_of, list_facts}
 use Rattle.aseba_check.proofs.FaultLaws.{lesser, first-append, seen, seen-least}
 use Rattle.aseba_check.proofs.Within.{Bounded, IsUpTo, more, sum-within, size-within}
 

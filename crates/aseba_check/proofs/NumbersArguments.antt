@@ -1,6 +1,6 @@
 -- What is counted of the arguments of a call is what the definitions say of them.
-use Rattle.std.proofs.Common.{◌≡◌, refl, sym, ◌∙◌, ap, subst, ℕ, suc, ◌+◌, ◌*◌, ◌-◌, ◌^◌, ◌≤◌, min, max, Bool, true, false, cond, if◌then◌else◌, ℤ, pos, negsuc, List, [], ◌∷◌, ◌++◌, length, map, take, Option, Some, None, arith, append_assoc, add_assoc, nat_lt, true≢false}
-use Rattle.std.specs.Prelude.{not, ◌||◌, ◌&&◌, int_lt, is_some, option_map, unwrap_or, slice_get, sum_by}
+use Rattle.std.proofs.Common.{◌≡◌, refl, sym, ◌∙◌, ap, ℕ, suc, ◌+◌, ◌-◌, Bool, true, false, if◌then◌else◌, ℤ, pos, List, [], ◌∷◌, ◌++◌, length, map, Option, Some, None, arith, append_assoc, add_assoc, nat_lt, true≢false}
+use Rattle.std.specs.Prelude.{not, ◌||◌, ◌&&◌, int_lt, is_some, slice_get, sum_by}
 use Rattle.std.specs.List.{list_any}
 use Rattle.std.specs.Ordering.{int_eq}
 use Rattle.std.proofs.Math.Seq.{take-append_seam}
@@ -10,25 +10,24 @@ use Rattle.std.proofs.lemmas.List.{append-nil, length-append}
 use Rattle.std.proofs.lemmas.List.Folds.{list_any-append}
 use Rattle.std.proofs.lemmas.List.Sums.{sum_by-cons}
 use Rattle.aseba_tree.specs.declared.description.Param.{Param}
-use Rattle.aseba_tree.specs.Code.{Name, Expr, expr, Form, number, whole, index, range, items, one, two, Exprs, no_exprs, exprs}
+use Rattle.aseba_tree.specs.Code.{Name, Expr, expr, number, whole, index, range, items, one, two, Exprs, no_exprs, exprs}
 use Rattle.aseba_tree.specs.State.{Program}
 use Rattle.aseba_tree.specs.Core.{CoreExpr}
 use Rattle.aseba_tree.specs.Sizes.{Known, variable_of, constant_of}
 use Rattle.aseba_tree.specs.Faults.{expr_faults, list_faults, argument_count}
 use Rattle.aseba_tree.specs.Elements.{variable_place, elements_of}
 use Rattle.aseba_tree.specs.Shape.{is_filled, are_filled}
-use Rattle.aseba_tree.specs.Numbers.{number_words, is_own, is_own_form, fresh_elements, fresh_of_list, lengths, template_lengths}
+use Rattle.aseba_tree.specs.Numbers.{number_words, is_own, fresh_elements, fresh_of_list, lengths, template_lengths}
 use Rattle.aseba_tree.proofs.SizeLaws.{EachKnown, nil_left, nil_right, both_left, both_right}
 use Rattle.aseba_tree.proofs.ElementLaws.{laid_scope}
 use Rattle.aseba_check.specs.declared.facts.Meaning.{Meaning}
-use Rattle.aseba_check.specs.declared.counting.count.Count.{Count}
 use Rattle.aseba_check.specs.declared.counting.calls.Given.{Given}
 use Rattle.aseba_check.specs.Declarations.{is_variable}
 use Rattle.aseba_check.specs.Places.{sum_up}
-use Rattle.aseba_check.specs.Counted.{empty, joined, counted_of}
+use Rattle.aseba_check.specs.Counted.{joined, counted_of}
 use Rattle.aseba_check.specs.CountedStatements as told
 use Rattle.aseba_check.proofs.ExprTies.{Describes, meaning_of}
-use Rattle.aseba_check.proofs.NumbersHeld.{held, sum-held, counted, joined-is}
+use Rattle.aseba_check.proofs.NumbersHeld.{held, counted, joined-is}
 use Rattle.aseba_check.proofs.NumbersExprs.{IsSame, same-place, counted-is}
 
 -- Arguments that stand for cells of their own

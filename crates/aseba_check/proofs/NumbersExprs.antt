@@ -1,24 +1,23 @@
 -- What is counted of an expression without a fault is what its elements take.
-use Rattle.std.proofs.Common.{◌≡◌, refl, sym, ◌∙◌, ap, subst, ℕ, zero, suc, ◌+◌, ◌-◌, ◌≤◌, Bool, true, false, cond, if◌then◌else◌, ℤ, pos, negsuc, List, [], ◌∷◌, ◌++◌, length, map, Option, Some, None, arith, nat_lt, append_assoc}
-use Rattle.std.specs.Prelude.{◌-ℤ◌, unsigned_abs, not, ◌||◌, ◌&&◌, nat_eq, int_lt, is_some, find, bytes_eq, unwrap_or, option_map, option_and_then, IfSome}
+use Rattle.std.proofs.Common.{◌≡◌, refl, sym, ◌∙◌, ap, subst, ℕ, ◌+◌, ◌-◌, ◌≤◌, Bool, true, false, cond, if◌then◌else◌, ℤ, pos, negsuc, List, [], ◌∷◌, ◌++◌, length, map, Option, Some, None, arith, nat_lt, append_assoc}
+use Rattle.std.specs.Prelude.{◌-ℤ◌, unsigned_abs, not, ◌||◌, nat_eq, int_lt, is_some, find, bytes_eq, unwrap_or, option_map, option_and_then, IfSome}
 use Rattle.std.specs.List.{range_with_len}
 use Rattle.std.proofs.lemmas.Bool.{eqb-true, ltb-true, ltb-false}
 use Rattle.std.proofs.lemmas.List.{length-map, append-nil}
 use Rattle.std.proofs.lemmas.Int.{ints}
 use Rattle.std.proofs.lemmas.List.FromFn.{length-range_with_len}
-use Rattle.aseba_words.specs.declared.operators.Unary.{Unary}
 use Rattle.aseba_words.specs.declared.operators.Binary.{Binary}
 use Rattle.aseba_tree.specs.declared.pos.Pos.{Pos}
 use Rattle.aseba_tree.specs.Code.{Name, Place, Expr, expr, Form, number, whole, index, range, items, one, two, Exprs, no_exprs, exprs, Const, Sized}
 use Rattle.aseba_tree.specs.State.{Program}
 use Rattle.aseba_tree.specs.Value.{as_place, from_to, constant}
-use Rattle.aseba_tree.specs.Core.{CoreExpr, fixed, cell, indirect, prefix, infix_of}
+use Rattle.aseba_tree.specs.Core.{CoreExpr, cell}
 use Rattle.aseba_tree.specs.CoreStep.{address_from}
-use Rattle.aseba_tree.specs.Sizes.{Known, Scope, variable_of, constant_of, named_constant, constant_value, constant_form, constant_list, alone, is_of_one_cell, range_size, size_of, variable_size, unary_constant, binary_constant}
+use Rattle.aseba_tree.specs.Sizes.{Known, Scope, variable_of, constant_of, constant_value, constant_form, is_of_one_cell, range_size, size_of, variable_size, unary_constant, binary_constant}
 use Rattle.aseba_tree.specs.Spells.{first_of}
-use Rattle.aseba_tree.specs.Faults.{fault_if, unknown, not_constant, not_scalar, bad_size, index_out, is_more_than_one, is_known, unknown_variable, index_outside, constant_place, bad_index, bad_range, zero_divisions, sizes_differ, bad_operand, bad_operands, not_one_cell, expr_faults, form_faults, list_faults}
+use Rattle.aseba_tree.specs.Faults.{fault_if, unknown, not_scalar, bad_size, index_out, is_more_than_one, unknown_variable, index_outside, constant_place, bad_index, bad_range, sizes_differ, bad_operand, bad_operands, not_one_cell, expr_faults, form_faults, list_faults}
 use Rattle.aseba_tree.specs.Layout.{variables}
-use Rattle.aseba_tree.specs.Elements.{variable_place, named_elements, indexed_element, range_elements, paired_elements, elements_of, elements_of_form, elements_of_list}
+use Rattle.aseba_tree.specs.Elements.{variable_place, named_elements, indexed_element, range_elements, elements_of, elements_of_form, elements_of_list}
 use Rattle.aseba_tree.specs.Shape.{is_filled, is_filled_form, are_filled, is_some_exprs}
 use Rattle.aseba_tree.specs.SoundLaws.{HasCells}
 use Rattle.aseba_tree.proofs.SizeLaws.{EachKnown, nil_left, nil_right, no_fault, not_false, both_left, both_right, one_cell, expr_is_good}
@@ -26,12 +25,10 @@ use Rattle.aseba_tree.proofs.ConstantLaws.{known}
 use Rattle.aseba_tree.proofs.ElementLaws.{laid_scope, expr_is_long}
 use Rattle.aseba_check.specs.declared.facts.Facts.{Facts}
 use Rattle.aseba_check.specs.declared.facts.Meaning.{Meaning}
-use Rattle.aseba_check.specs.declared.facts.Meaning.TheVariants.{Variable, Constant}
-use Rattle.aseba_check.specs.declared.counting.count.Count.{Count}
 use Rattle.aseba_check.specs.Told.{pos_of, joined as joined_facts, name_facts, facts_of, form_facts, list_facts, items_facts}
-use Rattle.aseba_check.specs.Counted.{empty, number_counted, cells_counted, name_counted, index_counted, joined, prefix_counted, infix_counted, range_counted, counted_of, form_counted, list_counted}
+use Rattle.aseba_check.specs.Counted.{cells_counted, name_counted, index_counted, joined, prefix_counted, infix_counted, range_counted, counted_of, form_counted, list_counted}
 use Rattle.aseba_check.proofs.ExprTies.{Describes, meaning_of}
-use Rattle.aseba_check.proofs.NumbersHeld.{held, counted, number-is, cells-are, index-is, joined-is, prefix-is, infix-is}
+use Rattle.aseba_check.proofs.NumbersHeld.{counted, number-is, cells-are, index-is, joined-is, prefix-is, infix-is}
 
 -- Values
 

@@ -1,8 +1,8 @@
 -- Numbers that stop at the greatest one, and what lists of elements take.
-use Rattle.std.proofs.Common.{◌≡◌, refl, sym, ◌∙◌, ap, ℕ, suc, ◌+◌, ◌-◌, ◌^◌, ◌≤◌, min, max, Bool, true, false, if◌then◌else◌, ℤ, pos, negsuc, List, [], ◌∷◌, ◌++◌, length, map, Option, arith}
-use Rattle.std.specs.Prelude.{nat_eq, int_lt, ◌||◌, sum_by}
+use Rattle.std.proofs.Common.{◌≡◌, refl, sym, ◌∙◌, ap, ℕ, suc, ◌+◌, ◌-◌, ◌^◌, ◌≤◌, min, max, Bool, true, false, if◌then◌else◌, ℤ, pos, negsuc, List, [], ◌∷◌, ◌++◌, length, map, arith}
+use Rattle.std.specs.Prelude.{nat_eq, int_lt, ◌||◌}
 use Rattle.std.proofs.lemmas.Bool.{eqb-true}
-use Rattle.std.specs.List.{fold, range_with_len}
+use Rattle.std.specs.List.{fold}
 use Rattle.std.proofs.lemmas.List.{length-map, length-append}
 use Rattle.std.proofs.lemmas.List.Sums.{sum_by-cons, sum_by-append}
 use Rattle.aseba_words.specs.declared.operators.Unary.{Unary}
@@ -13,7 +13,7 @@ use Rattle.aseba_tree.specs.Elements.{paired_elements}
 use Rattle.aseba_tree.specs.Numbers.{greatest, number_words, words, depth, all_words, greatest_depth}
 use Rattle.aseba_check.specs.declared.counting.count.Count.{Count}
 use Rattle.aseba_check.specs.Places.{sum_up}
-use Rattle.aseba_check.specs.Counted.{empty, number_counted, cells_counted, index_counted, joined, prefix_counted, infix_counted}
+use Rattle.aseba_check.specs.Counted.{number_counted, cells_counted, index_counted, joined, prefix_counted, infix_counted}
 
 -- a number, or the greatest one where it is greater
 abbrev pub held : ℕ → ℕ

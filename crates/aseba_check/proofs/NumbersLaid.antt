@@ -1,26 +1,26 @@
 -- Behind the declarations of a source without a fault, names mean its variables as they are laid out.
-use Rattle.std.proofs.Common.{◌≡◌, refl, sym, ◌∙◌, ap, subst, ℕ, suc, ◌+◌, ◌≤◌, ◌<◌, Bool, true, false, cond, List, [], ◌∷◌, ◌++◌, length, map, drop, Option, Some, None, arith, append_assoc}
+use Rattle.std.proofs.Common.{◌≡◌, refl, sym, ◌∙◌, ap, subst, ℕ, ◌+◌, ◌≤◌, Bool, true, false, List, [], ◌∷◌, ◌++◌, map, Option, Some, None, arith, append_assoc}
 use Rattle.std.proofs.lemmas.List.{append-nil}
 use Rattle.std.proofs.lemmas.List.Elements.{recursion_from_All}
 use Rattle.std.proofs.lemmas.List.Folds.{find-append}
 use Rattle.std.proofs.lemmas.List.Sums.{sum_by-append}
 use Rattle.std.proofs.lemmas.Bool.{lt-ltb}
-use Rattle.std.specs.Prelude.{nat_lt, nat_le, ◌&&◌, IsTrue, IfSome, bytes_eq, find, flat_map, sum_by, option_map, option_and_then, option_to_list}
+use Rattle.std.specs.Prelude.{nat_lt, nat_le, ◌&&◌, IfSome, bytes_eq, find, flat_map, sum_by, option_map, option_and_then}
 use Rattle.std.specs.List.{list_all, AllByRecursion}
 use Rattle.std.specs.Option.{option_or}
 use Rattle.aseba_tree.specs.declared.description.Sized as code_sized
 use Rattle.aseba_tree.specs.declared.project.Project as code_project
-use Rattle.aseba_tree.specs.Code.{Name, Handler, Source, Sized, Stmts, no_stmts, Expr}
+use Rattle.aseba_tree.specs.Code.{Name, Source, Sized, no_stmts, Expr}
 use Rattle.aseba_tree.specs.State.{Program, declared as declared_variables}
 use Rattle.aseba_tree.specs.View.{sized_view, native_view, project_view}
-use Rattle.aseba_tree.specs.Sizes.{Known, Scope, variable_of, constant_of, variable_size}
+use Rattle.aseba_tree.specs.Sizes.{Known, Scope, constant_of}
 use Rattle.aseba_tree.specs.Faults as tree
 use Rattle.aseba_tree.specs.Inside.{InsideSized, InsideProject}
 use Rattle.aseba_tree.specs.Layout.{variables, cells_of_variables, placed_from, layout}
 use Rattle.aseba_tree.specs.Layout as tree_layout
-use Rattle.aseba_tree.specs.Shape.{is_filled, list_depth, expr_count, stmts_count, decl_exprs, stmts_exprs, source_exprs, source_count, IsTree}
+use Rattle.aseba_tree.specs.Shape.{is_filled, list_depth, expr_count, decl_exprs, stmts_exprs, source_exprs, IsTree}
 use Rattle.aseba_tree.specs.Soundness.{Sound}
-use Rattle.aseba_tree.proofs.SizeLaws.{EachKnown, nil_left, nil_right}
+use Rattle.aseba_tree.proofs.SizeLaws.{EachKnown}
 use Rattle.aseba_tree.proofs.SoundProofs.{sound_is_faultless, sound_variables, all_left}
 use Rattle.aseba_tree.proofs.ConstantLaws.{known, same_consts, sound_is_laid_out}
 use Rattle.aseba_tree.proofs.ElementLaws.{laid_scope}
@@ -29,7 +29,6 @@ use Rattle.aseba_check.specs.Declarations.{Names, declared}
 use Rattle.aseba_check.specs.Places.{placed_view}
 use Rattle.aseba_check.specs.Walk.{first_names}
 use Rattle.aseba_check.specs.CountedPlaces.{with_places, SizesFit, known_at, NumbersFit}
-use Rattle.aseba_check.proofs.Within.{IsUpTo, Bounded}
 use Rattle.aseba_check.proofs.ExprTies.{Describes, meaning_of}
 use Rattle.aseba_check.proofs.DeclTies.{added, declared-describes}
 use Rattle.aseba_check.proofs.WorldTies.{first-describes, native-found, found-view}

@@ -1,31 +1,30 @@
 -- How much statements take at most, by how many statements and expressions they are.
-use Rattle.std.proofs.Common.{◌≡◌, refl, sym, ◌∙◌, ap, subst, ℕ, zero, suc, ◌+◌, ◌*◌, ◌-◌, ◌^◌, ◌≤◌, ◌<◌, min, max, Bool, true, false, cond, if◌then◌else◌, ℤ, pos, negsuc, List, [], ◌∷◌, ◌++◌, length, map, Option, Some, None, arith, nat_lt}
-use Rattle.std.specs.Prelude.{not, ◌||◌, ◌&&◌, nat_eq, nat_le, int_lt, is_some, option_map, option_to_list, unwrap_or, sum_by}
+use Rattle.std.proofs.Common.{◌≡◌, refl, ◌∙◌, ap, ℕ, suc, ◌+◌, ◌*◌, ◌-◌, ◌≤◌, ◌<◌, max, Bool, true, false, if◌then◌else◌, ℤ, pos, List, [], ◌∷◌, ◌++◌, length, Option, Some, None, arith}
+use Rattle.std.specs.Prelude.{not, ◌&&◌, nat_le, int_lt, is_some, option_to_list}
 use Rattle.std.specs.List.{list_all, list_any}
 use Rattle.std.specs.Ordering.{int_eq}
 use Rattle.std.proofs.lemmas.Bool.{leb-true}
 use Rattle.std.proofs.lemmas.List.{length-map, length-append}
 use Rattle.std.proofs.lemmas.List.Sums.{sum_by-cons, sum_by-append}
-use Rattle.aseba_words.specs.declared.operators.Binary.{Binary}
-use Rattle.aseba_tree.specs.Code.{Name, Place, Expr, expr, Form, whole, index, range, Exprs, no_exprs, exprs, Part, all, at, span, Target, ForHead, Stmt, stmt, StmtForm, assign, change, bump, if_then, when_do, while_do, for_do, emit, callsub, call, return, Stmts, no_stmts, stmts, Sized}
+use Rattle.aseba_tree.specs.Code.{Name, Place, Expr, expr, Exprs, no_exprs, exprs, Part, all, at, span, Target, stmt, StmtForm, assign, change, bump, if_then, when_do, while_do, for_do, emit, callsub, call, return, Stmts, no_stmts, stmts}
 use Rattle.aseba_tree.specs.State.{Program}
 use Rattle.aseba_tree.specs.Step.{part_form, target_expr, step_of}
 use Rattle.aseba_tree.specs.Value.{constant}
 use Rattle.aseba_tree.specs.Core.{CoreExpr, fixed, infix_of}
 use Rattle.aseba_tree.specs.Sizes.{is_of_one_cell, size_of, target_size}
-use Rattle.aseba_tree.specs.Faults.{fault_if, unknown, unknown_variable, bad_index, not_one_cell, sizes_differ, bad_size, expr_faults, list_faults, target_faults, part_faults, assignment_faults, cell_faults, bound_faults, head_faults, argument_faults, global_event, argument_count, native_of, stmt_form_faults, stmts_faults}
-use Rattle.aseba_tree.specs.Elements.{elements_of, elements_of_form, target_elements, changed_elements, bumped_elements, element_of, target_index, paired_elements}
-use Rattle.aseba_tree.specs.Shape.{is_filled, are_filled, list_depth, form_list_depth, exprs_list_depth, expr_count, form_count, list_count, to_list, part_exprs, stmt_exprs, form_exprs, stmts_exprs, stmt_count, inner_count, stmts_count}
-use Rattle.aseba_tree.specs.Numbers.{number_words, words, depth, condition_words, condition_depth, all_words, greatest_depth, kept_words, assigned_words, assigned_depth, assigned_room, is_own, fresh_elements, fresh_of_list, lengths, template_lengths, param_sizes, given_lengths, argument_elements, is_large, jump_words, else_words, stmt_words, form_words, stmts_words, stmt_depth, form_depth, stmts_depth, stmt_room, form_room, stmts_room}
+use Rattle.aseba_tree.specs.Faults.{fault_if, unknown, unknown_variable, bad_index, not_one_cell, expr_faults, list_faults, target_faults, part_faults, cell_faults, head_faults, global_event, stmt_form_faults, stmts_faults}
+use Rattle.aseba_tree.specs.Elements.{elements_of, target_elements, changed_elements, bumped_elements, element_of, target_index}
+use Rattle.aseba_tree.specs.Shape.{is_filled, list_depth, form_list_depth, expr_count, form_count, list_count, to_list, part_exprs, form_exprs, stmts_exprs, inner_count, stmts_count}
+use Rattle.aseba_tree.specs.Numbers.{number_words, words, depth, condition_words, condition_depth, all_words, greatest_depth, assigned_words, assigned_depth, assigned_room, is_own, fresh_elements, fresh_of_list, lengths, template_lengths, param_sizes, given_lengths, is_large, jump_words, else_words, form_words, stmts_words, form_depth, stmts_depth, form_room, stmts_room}
 use Rattle.aseba_tree.proofs.SizeLaws.{nil_left, nil_right, both_left, both_right}
 use Rattle.aseba_tree.proofs.ElementLaws.{laid_scope, expr_is_long}
 use Rattle.aseba_check.specs.Statements.{Known as Meanings}
 use Rattle.aseba_check.proofs.WalkTies.{total, cons-total}
-use Rattle.aseba_check.proofs.NumbersHeld.{depth-cons, depth-append, words-cons, words-append, number-small, paired-length, paired-words, paired-depth}
+use Rattle.aseba_check.proofs.NumbersHeld.{depth-append, words-cons, words-append, number-small, paired-length, paired-words, paired-depth}
 use Rattle.aseba_check.proofs.NumbersExprs.{same-size, expr-one, form-many}
 use Rattle.aseba_check.proofs.NumbersArguments.{length_words}
-use Rattle.aseba_check.proofs.NumbersStatements.{Ready, laid_world, Single, single, element-is, alone-filled, list-filled, part-good, part-filled, part-size, bumped-words, bumped-depth}
-use Rattle.aseba_check.proofs.NumbersWithin.{cap, cap-whole, weight, expr-weight, expr-deep}
+use Rattle.aseba_check.proofs.NumbersStatements.{Ready, laid_world, single, element-is, part-good, part-filled, part-size, bumped-words, bumped-depth}
+use Rattle.aseba_check.proofs.NumbersWithin.{cap-whole, weight, expr-weight, expr-deep}
 
 -- the lists and prefix operators of an expression are few
 abbrev pub is_shallow : Expr → Bool

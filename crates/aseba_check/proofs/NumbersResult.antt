@@ -1,7 +1,7 @@
 -- The numbers of a source that a check gave.
-use Rattle.std.proofs.Common.{◌≡◌, refl, sym, ◌∙◌, ap, subst, ℕ, zero, suc, ◌+◌, ◌*◌, ◌-◌, ◌^◌, ◌≤◌, ◌<◌, min, max, Bool, true, false, cond, if◌then◌else◌, List, [], ◌∷◌, ◌++◌, length, map, Option, Some, None, arith}
-use Rattle.std.specs.Prelude.{not, ◌&&◌, option_map, option_to_list, unwrap_or, filter, flat_map, sum_by}
-use Rattle.std.specs.List.{fold, list_all, AllByRecursion}
+use Rattle.std.proofs.Common.{◌≡◌, refl, ◌∙◌, subst, ℕ, suc, ◌+◌, ◌*◌, ◌-◌, ◌≤◌, max, Bool, true, false, cond, if◌then◌else◌, List, [], ◌∷◌, ◌++◌, length, map, arith}
+use Rattle.std.specs.Prelude.{not, option_to_list, filter, flat_map, sum_by}
+use Rattle.std.specs.List.{AllByRecursion}
 use Rattle.std.proofs.lemmas.List.Elements.{recursion_from_All}
 use Rattle.std.proofs.lemmas.List.Sums.{sum_by-cons, sum_by-append}
 use Rattle.aseba_tree.specs.declared.project.Project as code_project
@@ -11,25 +11,23 @@ use Rattle.aseba_tree.specs.Sizes.{Scope}
 use Rattle.aseba_tree.specs.Inside.{InsideSized, InsideProject}
 use Rattle.aseba_tree.specs.View.{project_view}
 use Rattle.aseba_tree.specs.Layout.{layout}
-use Rattle.aseba_tree.specs.Faults.{World, Fault, expr_faults, stmts_faults, parts_faults, decls_faults, recursion_faults, sub_calls, first_scope, world_of, faults}
-use Rattle.aseba_tree.specs.Elements.{elements_of}
-use Rattle.aseba_tree.specs.Shape.{is_filled, expr_count, decl_exprs, stmts_exprs, source_exprs, stmts_count, source_count, IsTree}
-use Rattle.aseba_tree.specs.Numbers.{greatest, assigned_words, assigned_room, jump_words, stmts_words, stmts_depth, stmts_room, part_words, source_words, source_depth, source_room, depth_of_sub}
+use Rattle.aseba_tree.specs.Faults.{World, stmts_faults, parts_faults, decls_faults, recursion_faults, sub_calls, first_scope, world_of, faults}
+use Rattle.aseba_tree.specs.Shape.{is_filled, expr_count, decl_exprs, stmts_exprs, source_exprs, stmts_count, IsTree}
+use Rattle.aseba_tree.specs.Numbers.{greatest, jump_words, stmts_depth, stmts_room, part_words, source_words, source_depth, source_room, depth_of_sub}
 use Rattle.aseba_tree.proofs.SizeLaws.{nil_left, nil_right}
 use Rattle.aseba_tree.proofs.ElementLaws.{laid_scope}
 use Rattle.aseba_check.specs.declared.checked.Placed.{Placed}
-use Rattle.aseba_check.specs.declared.counting.taken.Taken.{Taken}
 use Rattle.aseba_check.specs.Statements.{Known as Meanings}
 use Rattle.aseba_check.specs.Places.{placed_view}
 use Rattle.aseba_check.specs.CountedPlaces.{known_at, NumbersFit}
 use Rattle.aseba_check.specs.CountedParts as whole
 use Rattle.aseba_check.proofs.ExprTies.{limit}
-use Rattle.aseba_check.proofs.WalkTies.{total, cons-total}
+use Rattle.aseba_check.proofs.WalkTies.{total}
 use Rattle.aseba_check.proofs.NumbersHeld.{held, greatest-cons}
-use Rattle.aseba_check.proofs.NumbersStatements.{Ready, laid_world, taken_of}
-use Rattle.aseba_check.proofs.NumbersLimits.{IsFine, fine-left, fine-right, is_shallow, Under, under-stmts, value_words, value_depth, value_room, under-value}
+use Rattle.aseba_check.proofs.NumbersStatements.{Ready, laid_world}
+use Rattle.aseba_check.proofs.NumbersLimits.{IsFine, fine-left, fine-right, is_shallow, under-stmts, under-value}
 use Rattle.aseba_check.proofs.NumbersValues.{ValuesHaveNone, values-have-none}
-use Rattle.aseba_check.proofs.NumbersLaid.{Laid, laid, positive, ready}
+use Rattle.aseba_check.proofs.NumbersLaid.{laid, positive, ready}
 use Rattle.aseba_check.proofs.NumbersTotal.{PartsHaveNone, parts-have-none, parts_exprs, IsFit, depths-are, depths-low, values_words, values_depth, values_room, init-words, init-depth, init-room, entries, handlers_depth, all_room, deeper, source-is}
 
 total-append : (es fs : List Expr) → total (es ++ fs) ≡ total es + total fs

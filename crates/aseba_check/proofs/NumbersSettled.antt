@@ -1,5 +1,5 @@
 -- Stack cells of subroutines that are counted one behind the other are those that rounds give.
-use Rattle.std.proofs.Common.{◌≡◌, refl, sym, ◌∙◌, ap, subst, ℕ, zero, suc, ◌+◌, ◌≤◌, Bool, true, false, cond, if◌then◌else◌, List, [], ◌∷◌, ◌++◌, length, map, Option, Some, None, arith, append_assoc, true≢false}
+use Rattle.std.proofs.Common.{◌≡◌, refl, sym, ◌∙◌, ap, ℕ, zero, suc, ◌+◌, ◌≤◌, Bool, true, false, cond, if◌then◌else◌, List, [], ◌∷◌, ◌++◌, length, map, Option, Some, None, arith, append_assoc, true≢false}
 use mathlib.Core.Path.{fun_ext}
 use mathlib.Core.Logic.{◌⊎◌, inl, inr}
 use Rattle.std.specs.Prelude.{nat_eq, not, ◌&&◌, ◌||◌, is_some, option_map, bytes_eq, find, filter, slice_get, unwrap_or}
@@ -8,7 +8,7 @@ use Rattle.std.specs.Cmp.Lexicographic.{same_text}
 use Rattle.std.proofs.lemmas.Bool.{eqb-true}
 use Rattle.std.proofs.lemmas.List.{length-append}
 use Rattle.aseba_tree.specs.declared.source.Handler as code_handler
-use Rattle.aseba_tree.specs.Code.{Name, Handler, Stmt, stmt, StmtForm, assign, change, bump, if_then, when_do, while_do, for_do, emit, callsub, call, return, Stmts, no_stmts, stmts}
+use Rattle.aseba_tree.specs.Code.{Name, Handler, stmt, StmtForm, assign, change, bump, if_then, when_do, while_do, for_do, emit, callsub, call, return, Stmts, no_stmts, stmts}
 use Rattle.aseba_tree.specs.View.{handler_view}
 use Rattle.aseba_check.specs.declared.counting.taken.Taken.{Taken}
 use Rattle.aseba_check.specs.Looked.{nothing, first_value}

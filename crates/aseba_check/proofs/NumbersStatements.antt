@@ -1,35 +1,34 @@
 -- What is counted of statements without a fault is what the definitions say of them.
-use Rattle.std.proofs.Common.{◌≡◌, refl, sym, ◌∙◌, ap, subst, ℕ, zero, suc, ◌+◌, ◌*◌, ◌-◌, ◌^◌, ◌≤◌, min, max, Bool, true, false, cond, if◌then◌else◌, ℤ, pos, negsuc, List, [], ◌∷◌, ◌++◌, length, map, Option, Some, None, arith, append_assoc, add_assoc, nat_lt, true≢false}
-use Rattle.std.specs.Prelude.{not, ◌&&◌, ◌||◌, nat_eq, int_lt, is_some, option_map, option_and_then, option_to_list, unwrap_or, find, bytes_eq, sum_by, IsSome}
+use Rattle.std.proofs.Common.{◌≡◌, refl, sym, ◌∙◌, ap, subst, ℕ, suc, ◌+◌, ◌*◌, ◌-◌, ◌≤◌, max, Bool, true, false, if◌then◌else◌, ℤ, pos, List, [], ◌∷◌, ◌++◌, length, map, Option, Some, None, arith, append_assoc}
+use Rattle.std.specs.Prelude.{not, ◌&&◌, ◌||◌, nat_eq, is_some, option_map, option_and_then, option_to_list, unwrap_or, IsSome}
 use Rattle.std.specs.List.{list_all}
 use Rattle.std.proofs.lemmas.Bool.{eqb-true}
 use Rattle.std.proofs.lemmas.List.{length-map}
 use Rattle.aseba_words.specs.declared.operators.Binary.{Binary}
 use Rattle.aseba_tree.specs.declared.description.Native as code_native
 use Rattle.aseba_tree.specs.declared.description.Param as code_param
-use Rattle.aseba_tree.specs.Code.{Name, Place, Expr, expr, Form, number, whole, index, range, items, one, two, Exprs, no_exprs, exprs, Part, all, at, span, Target, ForHead, Stmt, stmt, StmtForm, assign, change, bump, if_then, when_do, while_do, for_do, emit, callsub, call, return, Stmts, no_stmts, stmts, Native, Sized, Project}
+use Rattle.aseba_tree.specs.Code.{Name, Place, Expr, expr, number, index, one, Exprs, no_exprs, exprs, Part, all, at, span, Target, ForHead, stmt, StmtForm, assign, change, bump, if_then, when_do, while_do, for_do, emit, callsub, call, return, Stmts, no_stmts, stmts, Native, Sized}
 use Rattle.aseba_tree.specs.State.{Program}
 use Rattle.aseba_tree.specs.Step.{part_form, target_expr, step_of}
 use Rattle.aseba_tree.specs.Value.{constant}
 use Rattle.aseba_tree.specs.View.{native_view, param_view}
 use Rattle.aseba_tree.specs.Core.{CoreExpr, fixed, cell, indirect, prefix, infix_of}
-use Rattle.aseba_tree.specs.Sizes.{Known, Scope, variable_of, constant_of, constant_value, is_constant, is_of_one_cell, range_size, name_size, size_of, form_size, variable_size, part_size, target_size}
+use Rattle.aseba_tree.specs.Sizes.{Known, Scope, variable_of, constant_of, constant_value, is_constant, is_of_one_cell, name_size, size_of, form_size, part_size, target_size}
 use Rattle.aseba_tree.specs.Spells.{first_of}
-use Rattle.aseba_tree.specs.Faults.{Fault, fault_if, unknown, not_constant, bad_size, arg_count, is_known, unknown_variable, bad_index, bad_range, constant_place, zero_divisions, sizes_differ, not_one_cell, is_more_than_one, expr_faults, form_faults, list_faults, part_faults, target_faults, assignment_faults, bound_faults, cell_faults, head_faults, step_faults, argument_faults, emit_faults, global_event, argument_count, native_of, native_faults, with_params, length_faults, World, stmt_faults, stmt_form_faults, stmts_faults}
-use Rattle.aseba_tree.specs.Elements.{variable_place, elements_of, elements_of_form, target_elements, changed_elements, bumped_elements, element_of, target_index, paired_elements}
-use Rattle.aseba_tree.specs.Shape.{is_filled, is_filled_form, are_filled, to_list, part_exprs, stmt_exprs, form_exprs, stmts_exprs}
-use Rattle.aseba_tree.specs.Numbers.{number_words, words, depth, condition_words, condition_depth, all_words, greatest_depth, kept_words, assigned_words, assigned_depth, assigned_room, fresh_elements, fresh_of_list, lengths, template_lengths, param_sizes, given_lengths, argument_elements, jump_words, else_words, stmt_words, form_words, stmts_words, stmt_depth, form_depth, stmts_depth, stmt_room, form_room, stmts_room}
+use Rattle.aseba_tree.specs.Faults.{fault_if, unknown, not_constant, arg_count, unknown_variable, bad_index, bad_range, constant_place, zero_divisions, not_one_cell, expr_faults, form_faults, list_faults, part_faults, target_faults, assignment_faults, bound_faults, cell_faults, head_faults, step_faults, argument_faults, global_event, argument_count, native_of, native_faults, with_params, length_faults, World, stmt_form_faults, stmts_faults}
+use Rattle.aseba_tree.specs.Elements.{elements_of, elements_of_form, target_elements, changed_elements, bumped_elements, element_of, target_index}
+use Rattle.aseba_tree.specs.Shape.{is_filled, is_filled_form, are_filled, to_list, part_exprs, form_exprs, stmts_exprs}
+use Rattle.aseba_tree.specs.Numbers.{number_words, words, depth, condition_words, condition_depth, all_words, greatest_depth, kept_words, assigned_words, assigned_depth, assigned_room, fresh_elements, fresh_of_list, lengths, template_lengths, given_lengths, argument_elements, jump_words, else_words, form_words, stmts_words, form_depth, stmts_depth, form_room, stmts_room}
 use Rattle.aseba_tree.proofs.SizeLaws.{EachKnown, nil_left, nil_right, no_fault, not_false, both_left, both_right, place_value, expr_is_good}
 use Rattle.aseba_tree.proofs.ConstantLaws.{constant_is_value}
 use Rattle.aseba_tree.proofs.ElementLaws.{laid_scope, expr_is_long}
 use Rattle.aseba_tree.proofs.SoundProofs.{all_left, all_right}
 use Rattle.aseba_check.specs.declared.facts.Meaning.{Meaning}
-use Rattle.aseba_check.specs.declared.counting.count.Count.{Count}
 use Rattle.aseba_check.specs.declared.counting.taken.Taken.{Taken}
 use Rattle.aseba_check.specs.Told.{facts_of}
 use Rattle.aseba_check.specs.Statements.{Known as Meanings}
 use Rattle.aseba_check.specs.Places.{sum_up}
-use Rattle.aseba_check.specs.Counted.{empty, index_counted, infix_counted, counted_of, form_counted}
+use Rattle.aseba_check.specs.Counted.{infix_counted, counted_of, form_counted}
 use Rattle.aseba_check.specs.CountedStatements as told
 use Rattle.aseba_check.proofs.ExprTies.{Describes}
 use Rattle.aseba_check.proofs.NumbersHeld.{paired-length, held, sum-held, depth-cons, words-cons, counted, same-count, is_test, infix-is}

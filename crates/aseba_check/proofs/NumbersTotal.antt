@@ -1,17 +1,15 @@
 -- What is counted of a whole source without a fault is what the definitions say of it.
-use Rattle.std.proofs.Common.{◌≡◌, refl, sym, ◌∙◌, ap, subst, ℕ, zero, suc, ◌+◌, ◌*◌, ◌-◌, ◌^◌, ◌≤◌, ◌<◌, min, max, Bool, true, false, cond, if◌then◌else◌, List, [], ◌∷◌, ◌++◌, length, map, Option, Some, None, arith}
-use Rattle.std.specs.Prelude.{not, ◌&&◌, is_some, option_map, option_to_list, unwrap_or, IfSome, bytes_eq, find, filter, filter_map, flat_map, sum_by}
-use Rattle.std.specs.List.{fold, list_all, cons_option, AllByRecursion}
+use Rattle.std.proofs.Common.{◌≡◌, refl, sym, ◌∙◌, ap, ℕ, zero, suc, ◌+◌, ◌*◌, ◌-◌, ◌≤◌, max, Bool, true, false, cond, if◌then◌else◌, List, [], ◌∷◌, ◌++◌, length, map, Option, Some, None, arith}
+use Rattle.std.specs.Prelude.{not, option_map, option_to_list, unwrap_or, IfSome, bytes_eq, find, filter, filter_map, flat_map, sum_by}
+use Rattle.std.specs.List.{list_all, cons_option, AllByRecursion}
 use Rattle.std.specs.Option.{option_or}
-use Rattle.std.proofs.lemmas.List.Sums.{sum_by-cons, sum_by-append}
-use Rattle.aseba_tree.specs.Code.{Name, Expr, Decl, Handler, Source, Stmts, no_stmts, stmts, Stmt, stmt, assign, all}
-use Rattle.aseba_tree.specs.State.{Program, init_code, in_front, assignment}
-use Rattle.aseba_tree.specs.Sizes.{Scope}
-use Rattle.aseba_tree.specs.Core.{CoreExpr}
+use Rattle.std.proofs.lemmas.List.Sums.{sum_by-cons}
+use Rattle.aseba_tree.specs.Code.{Name, Expr, Decl, Handler, Stmts, Stmt, stmt, assign, all}
+use Rattle.aseba_tree.specs.State.{Program, in_front, assignment}
 use Rattle.aseba_tree.specs.Faults.{World, expr_faults, stmts_faults, parts_faults, part_name_faults}
 use Rattle.aseba_tree.specs.Elements.{elements_of}
-use Rattle.aseba_tree.specs.Shape.{is_filled, decl_exprs, stmts_exprs, stmts_count, expr_count}
-use Rattle.aseba_tree.specs.Numbers.{greatest, all_words, greatest_depth, assigned_words, assigned_depth, assigned_room, jump_words, stmts_words, stmts_depth, stmts_room, part_words, table_words, source_words, source_depth, source_room, sub_body, sub_depth, depth_of_sub, handlers}
+use Rattle.aseba_tree.specs.Shape.{is_filled, decl_exprs, stmts_exprs, stmts_count}
+use Rattle.aseba_tree.specs.Numbers.{greatest, jump_words, stmts_words, stmts_depth, stmts_room, part_words, source_words, source_depth, source_room, sub_body, sub_depth, depth_of_sub}
 use Rattle.aseba_tree.proofs.SizeLaws.{nil_left, nil_right}
 use Rattle.aseba_tree.proofs.ElementLaws.{laid_scope}
 use Rattle.aseba_check.specs.declared.counting.taken.Taken.{Taken}
@@ -21,11 +19,11 @@ use Rattle.aseba_check.specs.Places.{sum_up}
 use Rattle.aseba_check.specs.CountedStatements as told
 use Rattle.aseba_check.specs.CountedParts as whole
 use Rattle.aseba_check.proofs.WorldTies.{or-none, first-at, one-more}
-use Rattle.aseba_check.proofs.WalkTies.{total, cons-total}
-use Rattle.aseba_check.proofs.NumbersHeld.{held, sum-held, greatest-cons}
+use Rattle.aseba_check.proofs.WalkTies.{total}
+use Rattle.aseba_check.proofs.NumbersHeld.{held, greatest-cons}
 use Rattle.aseba_check.proofs.NumbersExprs.{expr-many}
 use Rattle.aseba_check.proofs.NumbersStatements.{Ready, laid_world, taken_of, same-taken, behind-is, longer-is, behind-both, stored-is, counted-here, stmts-are, alone-filled}
-use Rattle.aseba_check.proofs.NumbersLimits.{IsFine, fine-left, fine-right, Under, under-stmts, value_words, value_depth, value_room}
+use Rattle.aseba_check.proofs.NumbersLimits.{IsFine, fine-left, fine-right, under-stmts, value_words, value_depth, value_room}
 use Rattle.aseba_check.proofs.NumbersValues.{ValuesHaveNone}
 
 -- Parts

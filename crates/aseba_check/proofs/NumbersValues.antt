@@ -1,16 +1,15 @@
 -- An expression without a fault has none where more names are known, unless a name got another meaning.
-use Rattle.std.proofs.Common.{◌≡◌, refl, sym, ◌∙◌, ap, subst, ℕ, Bool, true, false, cond, if◌then◌else◌, ℤ, pos, List, [], ◌∷◌, ◌++◌, Option, Some, None}
+use Rattle.std.proofs.Common.{◌≡◌, refl, sym, ◌∙◌, ap, Bool, true, false, cond, if◌then◌else◌, ℤ, pos, List, [], ◌∷◌, ◌++◌, Option, Some, None}
 use Rattle.std.proofs.lemmas.List.Folds.{find-append}
-use Rattle.std.specs.Prelude.{not, ◌&&◌, ◌||◌, is_some, option_map, option_and_then, bytes_eq, find}
+use Rattle.std.specs.Prelude.{not, ◌&&◌, ◌||◌, is_some, option_and_then, bytes_eq}
 use Rattle.std.specs.Option.{option_or}
 use Rattle.std.specs.Cmp.Lexicographic.{same_text}
 use Rattle.aseba_words.specs.declared.operators.Unary.{Unary}
 use Rattle.aseba_words.specs.declared.operators.Unary.TheVariants.{Minus, Abs, BitNot, Not}
-use Rattle.aseba_words.specs.declared.operators.Binary.{Binary}
-use Rattle.aseba_tree.specs.Code.{Name, Place, Expr, expr, Form, number, whole, index, range, items, one, two, Exprs, no_exprs, exprs, Decl}
-use Rattle.aseba_tree.specs.Sizes.{Known, Scope, variable_of, constant_of, is_constant, is_constant_form, are_constant, constant_value, constant_form, constant_list, alone, unary_constant, binary_constant, is_of_one_cell, common_size, added_size, range_size, name_size, unary_size, binary_size, size_of, form_size, list_size, variable_size}
+use Rattle.aseba_tree.specs.Code.{Name, Place, Expr, expr, number, whole, index, range, items, one, two, Exprs, no_exprs, exprs, Decl}
+use Rattle.aseba_tree.specs.Sizes.{Known, Scope, variable_of, constant_of, is_constant, are_constant, constant_value, constant_list, alone, unary_constant, binary_constant, is_of_one_cell, added_size, range_size, name_size, unary_size, binary_size, size_of, list_size}
 use Rattle.aseba_tree.specs.Spells.{first_of}
-use Rattle.aseba_tree.specs.Faults.{Fault, fault_if, unknown, duplicate, not_constant, constant_division, not_scalar, bad_size, is_more_than_one, unknown_variable, is_known, index_outside, backwards, divides, is_number, zero_divisions, form_divisions, list_divisions, bad_index, bad_range, bad_operand, bad_operands, sizes_differ, expr_faults, form_faults, list_faults, given_size, size_faults, value_faults, decl_faults, declaring, all_declaring, decls_faults}
+use Rattle.aseba_tree.specs.Faults.{fault_if, unknown, duplicate, not_constant, constant_division, not_scalar, bad_size, is_more_than_one, unknown_variable, is_known, index_outside, backwards, divides, is_number, zero_divisions, list_divisions, bad_index, bad_range, bad_operand, bad_operands, sizes_differ, expr_faults, list_faults, given_size, size_faults, value_faults, decl_faults, declaring, all_declaring, decls_faults}
 use Rattle.aseba_tree.proofs.SizeLaws.{nil_left, nil_right, no_fault, not_false}
 
 -- each name that is known in one scope means the same in another

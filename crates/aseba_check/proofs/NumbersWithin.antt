@@ -1,21 +1,20 @@
 -- No source reaches the greatest number: how much its expressions and statements take at most.
-use Rattle.std.proofs.Common.{◌≡◌, refl, sym, ◌∙◌, ap, subst, ℕ, zero, suc, ◌+◌, ◌*◌, ◌-◌, ◌^◌, ◌≤◌, ◌<◌, min, max, Bool, true, false, cond, if◌then◌else◌, ℤ, pos, negsuc, List, [], ◌∷◌, ◌++◌, length, map, Option, Some, None, arith, append_assoc, nat_lt}
-use Rattle.std.specs.Prelude.{not, ◌||◌, ◌&&◌, nat_eq, nat_le, int_lt, is_some, find, bytes_eq, unwrap_or, option_map, option_and_then, IfSome, sum_by}
-use Rattle.std.specs.List.{list_all, range_with_len}
+use Rattle.std.proofs.Common.{◌≡◌, refl, subst, ℕ, zero, suc, ◌+◌, ◌*◌, ◌-◌, ◌≤◌, max, true, List, [], ◌∷◌, ◌++◌, length, map, Option, Some, None, arith}
+use Rattle.std.specs.Prelude.{find, bytes_eq, option_and_then, IfSome}
+use Rattle.std.specs.List.{range_with_len}
 use Rattle.std.proofs.lemmas.List.{length-map, length-append}
 use Rattle.std.proofs.lemmas.List.FromFn.{length-range_with_len, length-map-range_with_len}
 use Rattle.aseba_tree.specs.Code.{Name, Place, Expr, expr, Form, number, whole, index, range, items, one, two, Exprs, no_exprs, exprs, Const}
 use Rattle.aseba_tree.specs.State.{Program}
 use Rattle.aseba_tree.specs.Value.{as_place, from_to, constant}
-use Rattle.aseba_tree.specs.Core.{CoreExpr, fixed, cell, indirect, prefix, infix_of}
-use Rattle.aseba_tree.specs.Sizes.{Known, variable_of, constant_of, variable_size, is_of_one_cell, size_of}
-use Rattle.aseba_tree.specs.Spells.{first_of}
-use Rattle.aseba_tree.specs.Faults.{unknown_variable, bad_index, bad_range, bad_operand, bad_operands, expr_faults, form_faults, list_faults}
-use Rattle.aseba_tree.specs.Elements.{variable_place, named_elements, indexed_element, range_elements, paired_elements, elements_of, elements_of_form, elements_of_list}
-use Rattle.aseba_tree.specs.Numbers.{number_words, words, depth, all_words, greatest_depth}
+use Rattle.aseba_tree.specs.Core.{CoreExpr, cell, prefix}
+use Rattle.aseba_tree.specs.Sizes.{Known, variable_of}
+use Rattle.aseba_tree.specs.Faults.{unknown_variable, bad_index, bad_operand, bad_operands, expr_faults, form_faults, list_faults}
+use Rattle.aseba_tree.specs.Elements.{variable_place, named_elements, indexed_element, range_elements, elements_of, elements_of_form, elements_of_list}
+use Rattle.aseba_tree.specs.Numbers.{words, all_words, greatest_depth}
 use Rattle.aseba_tree.specs.Shape.{is_filled, is_filled_form, are_filled, is_some_exprs, expr_count, form_count, list_count, list_depth, form_list_depth, exprs_list_depth}
-use Rattle.aseba_tree.proofs.SizeLaws.{EachKnown, nil_left, nil_right, both_left, both_right, expr_is_good}
-use Rattle.aseba_tree.proofs.ElementLaws.{laid_scope, expr_is_long}
+use Rattle.aseba_tree.proofs.SizeLaws.{EachKnown, nil_left, nil_right, both_left, both_right}
+use Rattle.aseba_tree.proofs.ElementLaws.{laid_scope}
 use Rattle.aseba_check.specs.declared.facts.Meaning.{Meaning}
 use Rattle.aseba_check.proofs.ExprTies.{Describes}
 use Rattle.aseba_check.proofs.NumbersHeld.{depth-cons, words-cons, words-append, depth-append, cells-words, cells-depth, prefix-words, prefix-depth, paired-length, paired-words, paired-depth, number-small}

@@ -5,7 +5,7 @@ use Rattle.std.proofs.lemmas.List.Sums.{sum_by-append}
 use Rattle.std.specs.Prelude.{nat_eq, not, IfSome, option_map, option_to_list, sum_by}
 use Rattle.aseba_tree.specs.declared.description.Native as code_native
 use Rattle.aseba_tree.specs.Code as tree_code
-use Rattle.aseba_tree.specs.Code.{Name, Place, Expr, expr, Exprs, no_exprs, exprs, Part, all, at, span, Target, ForHead, Stmt, stmt, StmtForm, assign, change, bump, if_then, when_do, while_do, for_do, emit, callsub, call, return, Stmts, no_stmts, stmts}
+use Rattle.aseba_tree.specs.Code.{Name, Place, Expr, expr, Exprs, no_exprs, exprs, Part, all, at, span, Stmt, stmt, StmtForm, assign, change, bump, if_then, when_do, while_do, for_do, emit, callsub, call, return, Stmts, no_stmts, stmts}
 use Rattle.aseba_tree.specs.View.{native_view, param_view}
 use Rattle.aseba_tree.specs.Sizes.{Scope}
 use Rattle.aseba_tree.specs.Faults as tree
@@ -15,7 +15,7 @@ use Rattle.aseba_check.specs.declared.fault.Fault.{Fault}
 use Rattle.aseba_check.specs.declared.facts.Meaning.{Meaning}
 use Rattle.aseba_check.specs.Fits.{Fits, EachItem, EachOption, EachPart, EachStmt, EachForm, EachStmts}
 use Rattle.aseba_check.specs.Told as told
-use Rattle.aseba_check.specs.Told.{pos_of, facts_of}
+use Rattle.aseba_check.specs.Told.{pos_of}
 use Rattle.aseba_check.specs.Statements as walk
 use Rattle.aseba_check.specs.Statements.{Known}
 use Rattle.aseba_check.proofs.ExprTies.{Tells, join, silent, if-tells, one-tells, limit, signed-is, tied}

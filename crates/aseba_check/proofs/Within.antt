@@ -1,5 +1,5 @@
 -- How large the numbers and the sizes of expressions can get.
-use Rattle.std.proofs.Common.{◌≡◌, refl, sym, ◌∙◌, ap, ℕ, suc, ◌+◌, ◌*◌, ◌≤◌, Bool, true, false, cond, if◌then◌else◌, ℤ, pos, ◌-ℤ◌, unsigned_abs, List, [], ◌∷◌, Option, Some, None, arith}
+use Rattle.std.proofs.Common.{ℕ, suc, ◌+◌, ◌*◌, ◌≤◌, Bool, true, false, cond, if◌then◌else◌, ℤ, pos, ◌-ℤ◌, unsigned_abs, Option, Some, None, arith}
 use Rattle.std.specs.Prelude.{nat_eq, int_lt, not, ◌||◌, ◌&&◌, int_div, int_rem, neg_ℤ, is_some, IfSome, FitsSigned, option_and_then}
 use Rattle.std.specs.Int.{w16, cast_signed}
 use Rattle.std.specs.Ordering.{int_eq}

@@ -1,5 +1,5 @@
 -- What the elements of an expression take together, from its parts to the whole. Sums stop at a number that no source reaches.
-use Rattle.std.specs.Prelude.{ℕ, max, Bool, false, if◌then◌else◌, ℤ, nat_eq, Option, Some, None, unwrap_or}
+use Rattle.std.specs.Prelude.{ℕ, max, false, if◌then◌else◌, ℤ, nat_eq, Option, Some, None, unwrap_or}
 use Rattle.aseba_words.specs.declared.operators.Binary.{Binary}
 use Rattle.aseba_tree.specs.Code.{Name, Expr, expr, Form, number, whole, index, range, items, one, two, Exprs, no_exprs, exprs}
 use Rattle.aseba_tree.specs.Sizes.{range_size, is_of_one_cell}

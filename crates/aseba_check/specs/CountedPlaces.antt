@@ -1,5 +1,5 @@
 -- What names mean to the statements of a source, by the places of its variables.
-use Rattle.std.specs.Prelude.{ℕ, ◌≤◌, List, [], ◌∷◌, Some}
+use Rattle.std.specs.Prelude.{◌≤◌, List, [], ◌∷◌, Some}
 use Rattle.aseba_tree.specs.declared.project.Project.{Project}
 use Rattle.aseba_tree.specs.Code.{Handler}
 use Rattle.aseba_check.specs.declared.checked.Placed.{Placed}

@@ -17,7 +17,7 @@ use Rattle.aseba_check.specs.Told.{facts_of}
 use Rattle.aseba_check.specs.Statements.{Known}
 use Rattle.aseba_check.specs.Declarations.{is_variable}
 use Rattle.aseba_check.specs.Places.{sum_up}
-use Rattle.aseba_check.specs.Counted.{empty, number_counted, name_counted, index_counted, range_counted, joined, infix_counted, counted_of}
+use Rattle.aseba_check.specs.Counted.{empty, name_counted, index_counted, range_counted, joined, infix_counted, counted_of}
 
 abbrev pub Names : Type 0
 Names = Name → Option Meaning

@@ -10,7 +10,7 @@ use Rattle.aseba_tree.specs.Sizes.{is_of_one_cell}
 use Rattle.aseba_tree.specs.Numbers.{is_large, jump_words, number_words, words, condition_words}
 use Rattle.aseba_tree.specs.CoreNumbers.{param_count, is_handler, store_words, native_words, core_else_words, core_stmt_words, core_form_words, core_list_words, core_part_words, core_table_words, core_words, core_starts_from}
 use Rattle.aseba_codegen.specs.declared.coded.Coded.{Coded}
-use Rattle.aseba_codegen.specs.Words.{Condition, Site, instruction, twelve_bits, sixteen_bits, far_jump, large_number_code, number_code, expr_code, differs_from_zero, condition_code, store_code, jump_code, test_code, if_code, native_code, on_line, stmt_code, form_code, list_code, body_code, is_sub, part_code, init_code, init_start, starts_apart, part_starts, handler_entry, handler_entries, table_of, table_code, parts_code, core_code}
+use Rattle.aseba_codegen.specs.Words.{Condition, Site, instruction, twelve_bits, sixteen_bits, far_jump, large_number_code, number_code, expr_code, differs_from_zero, condition_code, store_code, jump_code, test_code, if_code, native_code, on_line, stmt_code, form_code, list_code, is_sub, part_code, init_code, init_start, starts_apart, part_starts, handler_entry, handler_entries, table_of, table_code, parts_code, core_code}
 
 pub on_line-long : (line : ℕ) (ws : List ℕ) → length (on_line line ws) ≡ length ws
 on_line-long line [] = refl

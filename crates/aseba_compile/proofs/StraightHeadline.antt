@@ -1,5 +1,5 @@
 -- The words of a straight source tell what the source means.
-use Rattle.std.proofs.Common.{◌≡◌, refl, sym, ◌∙◌, ap, ℕ, zero, suc, ◌+◌, Bool, true, false, if◌then◌else◌, List, [], ◌∷◌, ◌++◌, arith, length, count_by}
+use Rattle.std.proofs.Common.{◌≡◌, refl, sym, ◌∙◌, ℕ, zero, suc, ◌+◌, Bool, true, false, if◌then◌else◌, List, [], ◌∷◌, ◌++◌, arith, length, count_by}
 use Rattle.std.specs.Prelude.{map, sum_by}
 use Rattle.std.proofs.lemmas.List.{map-append}
 use Rattle.std.proofs.lemmas.List.Sums.{sum_by-cons}
@@ -11,7 +11,7 @@ use Rattle.aseba_tree.specs.Layout.{variables}
 use Rattle.aseba_tree.specs.Numbers.{source_weight}
 use Rattle.aseba_tree.specs.CoreNumbers.{core_weight}
 use Rattle.aseba_codegen.specs.Table as table
-use Rattle.aseba_codegen.specs.Table.{Layout, layout_of, table_lines, table_beats, beginning, started}
+use Rattle.aseba_codegen.specs.Table.{Layout, layout_of, table_beats, beginning, started}
 use Rattle.aseba_codegen.specs.CoreRun.{core_run_of, core_begin_of}
 use Rattle.aseba_codegen.specs.Words.{core_code}
 use Rattle.aseba_codegen.specs.Agrees.{line_at, RunsAlike, StraightCodeRuns}

@@ -11,7 +11,7 @@ use Rattle.aseba_tree.specs.declared.project.Project.{Project}
 use Rattle.aseba_tree.specs.declared.core_tree.Core.{Core}
 use Rattle.aseba_tree.specs.Inside.{InsideProject}
 use Rattle.aseba_tree.specs.Code.{Name, Const, Decl, Expr, Handler, Stmts}
-use Rattle.aseba_tree.specs.View.{const_view, decl_view, stmt_view, stmts_of, handler_view, project_view, source_view, core_view}
+use Rattle.aseba_tree.specs.View.{const_view, decl_view, stmt_view, stmts_of, handler_view, project_view, source_view}
 use Rattle.aseba_tree.specs.View as view
 use Rattle.aseba_tree.specs.State.{Program, assignment, in_front, init_code}
 use Rattle.aseba_tree.specs.Layout.{variables, layout, cells_of_variables}

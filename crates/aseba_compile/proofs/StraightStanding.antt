@@ -1,5 +1,5 @@
 -- A machine that stands at a state of a straight source's core stands at the source's state.
-use Rattle.std.proofs.Common.{◌≡◌, refl, sym, ◌∙◌, ap, ℕ, true, Bool, ℤ, List, [], ◌∷◌, ◌++◌, length, take, Option, None}
+use Rattle.std.proofs.Common.{◌≡◌, refl, sym, ◌∙◌, ap, Bool, ℤ, List, [], ◌∷◌, ◌++◌, length, take, Option, None}
 use Rattle.std.specs.Prelude.{map}
 use Rattle.std.proofs.Math.Seq.{take-length}
 use Rattle.std.proofs.lemmas.List.{map-append, length-map}

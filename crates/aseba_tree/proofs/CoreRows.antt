@@ -12,7 +12,7 @@ use Rattle.aseba_tree.specs.Line.{named, report_text}
 use Rattle.aseba_tree.specs.Script.{arrives, sets}
 use Rattle.aseba_tree.specs.State.{Program, loaded, declared}
 use Rattle.aseba_tree.specs.Step.{step, next_line}
-use Rattle.aseba_tree.specs.Core.{fixed, cell, indirect, infix_of, into, CoreForm, CoreStmt, core_stmt, store, on_edge, loop, enter, use_native, CoreStmts, no_core, core_stmts, Core}
+use Rattle.aseba_tree.specs.Core.{fixed, cell, indirect, infix_of, into, CoreStmt, core_stmt, store, on_edge, loop, enter, use_native, CoreStmts, no_core, core_stmts, Core}
 use Rattle.aseba_tree.specs.CoreStep.{CoreProgram, core_step, core_loaded, core_next_line}
 use Rattle.aseba_tree.specs.Moves.{Move, steps, acts, Course, CoreCourse, moved, core_moved}
 use Rattle.aseba_tree.proofs.Written.{num, name, list, st, decl, onevent, project, program, x, ping, ex, spot, block}

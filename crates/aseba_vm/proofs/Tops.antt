@@ -2,7 +2,7 @@
 use Rattle.std.proofs.Common.{◌≡◌, ℕ, ◌-◌, ◌≤◌, List, ◌++◌, length, map, take, drop, reverse, ℤ, ap, sym, ◌∙◌, arith}
 use Rattle.std.specs.Int.{cast_unsigned, w16}
 use Rattle.aseba_vm.specs.Rows.{arguments}
-use Rattle.std.proofs.lemmas.List.{take_at, drop_at, take_rest, take-append-drop, length-take-le, length-drop, length-reverse, reverse-append, reverse-reverse}
+use Rattle.std.proofs.lemmas.List.{take_at, drop_at, take_rest, take-append-drop, length-drop, length-reverse, reverse-append, reverse-reverse}
 
 -- the front the other way round, and the rest of it
 turned : {A : Type 0} (xs : List A) (m : ℕ) → reverse xs ≡ reverse (drop m xs) ++ reverse (take m xs)

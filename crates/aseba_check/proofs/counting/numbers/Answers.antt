@@ -1,4 +1,4 @@
-use Rattle.std.proofs.Common.{◌≡◌, ◌∙◌, ap, subst, List}
+use Rattle.std.proofs.Common.{◌∙◌, ap, subst, List}
 use Rattle.aseba_tree.specs.View.{source_view}
 use Rattle.aseba_tree.proofs.SoundProofs.{sound_is_faultless}
 use Rattle.aseba_check.specs.declared.checked.Placed.{Placed}

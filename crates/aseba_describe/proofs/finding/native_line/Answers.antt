@@ -1,4 +1,4 @@
-use Rattle.std.proofs.Common.{◌≡◌, ℕ, length, sym, ◌∙◌, arith}
+use Rattle.std.proofs.Common.{◌≡◌, length, sym, ◌∙◌, arith}
 use Rattle.std.proofs.lemmas.Bool.{eqb-true}
 use Rattle.aseba_describe.proofs.NativeLines.{drops_more, found_native, passed_native, passed_other, not_found}
 use Rattle.aseba_describe.proofs.finding.native_line.Goals as goal

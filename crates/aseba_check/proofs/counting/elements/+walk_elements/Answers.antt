@@ -1,4 +1,3 @@
-use Rattle.std.proofs.Common.{◌∙◌}
 use Rattle.aseba_check.proofs.ViewLaws.{items-view}
 use Rattle.aseba_check.proofs.counting.elements.+walk_elements.Goals as goal
 

@@ -1,4 +1,4 @@
-use Rattle.std.proofs.Common.{◌≡◌, ◌∙◌, sym, length, map}
+use Rattle.std.proofs.Common.{◌∙◌, sym, length, map}
 use Rattle.aseba_tree.specs.View.{handler_view}
 use Rattle.aseba_check.specs.Looked.{looked}
 use Rattle.aseba_check.specs.Statements.{known_of}

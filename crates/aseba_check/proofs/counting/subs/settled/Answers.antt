@@ -1,4 +1,4 @@
-use Rattle.std.proofs.Common.{◌≡◌, ◌∙◌, ap, sym, ℕ, None, Some, arith}
+use Rattle.std.proofs.Common.{◌≡◌, ◌∙◌, ap, sym, None, Some, arith}
 use Rattle.aseba_check.specs.CountedParts.{Depths}
 use Rattle.aseba_check.proofs.counting.subs.settled.Goals as goal
 
