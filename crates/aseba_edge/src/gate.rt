@@ -6,7 +6,7 @@ use std::sync::Arc;
 use std::sync::atomic::{AtomicU64, Ordering};
 use std::thread;
 
-// For how many turns an input waits before its gate counts as stuck.
+/// For how many turns an input waits before its gate counts as stuck.
 const TURNS: u32 = 1_000_000;
 
 /// What an input in memory waits for at the end of its bytes: that its output has taken a number of
@@ -56,7 +56,7 @@ impl Gate {
         self.taken = taken;
     }
 
-    // Looks whether the gate is open.
+    /// Looks whether the gate is open.
     fn look(&mut self) -> bool
         ensures answer { result ≡ nat_le self.new.until self.new.taken }
         ensures rest { self.new ≡ record self.old { taken = self.new.taken } }

@@ -26,14 +26,14 @@ pub(crate) struct Dial {
 /// number as well, but takes no link and isn't a fault.
 #[derive(Drop)]
 pub struct MemoryDialer {
-    // The next one stands last.
+    /// The next one stands last.
     links: Vec<MemoryLink>,
     polled: Vec<MemoryPolledLink>,
     dials: Vec<Dial>,
     plan: Plan,
 }
 
-// Makes room for one dial more, and copies its address.
+/// Makes room for one dial more, and copies its address.
 fn prepare(alloc: Global, dials: &mut Vec<Dial>, address: &str) -> Result<Name, Mem>
     ensures address { IfOk result (λ name. name ≡ address.now) }
     ensures same { dials.new.items ≡ dials.old.items }
@@ -43,7 +43,7 @@ fn prepare(alloc: Global, dials: &mut Vec<Dial>, address: &str) -> Result<Name, 
     Name::new(alloc, address.as_bytes())
 }
 
-// The link that is given next, none where the dial is to fail.
+/// The link that is given next, none where the dial is to fail.
 fn next_link<L>(links: &mut Vec<L>, fails: bool) -> Option<L>
     ensures given { links.old.items ≡ links.new.items ++ option_to_list result }
     ensures some { is_some result ≡ (not fails && nat_lt 0 (vec_len links.old)) }

@@ -44,7 +44,7 @@ impl MemoryFiles {
         self.plan.faults
     }
 
-    // What a read answers that isn't to fail.
+    /// What a read answers that isn't to fail.
     fn answer(&self, alloc: Global, name: &[u8], limit: u64) -> FileAnswer
         ensures answer { Answers (held self.now.files name.now) limit result }
         ensures within { IsWithin limit result }
@@ -64,7 +64,7 @@ impl MemoryFiles {
     }
 }
 
-// The first file of a name.
+/// The first file of a name.
 fn named<'a>(files: &'a [MemoryFile], name: &[u8]) -> Option<&'a MemoryFile>
     ensures { option_copied result ≡ first_named files.now name.now }
 {

@@ -24,7 +24,7 @@ pub struct MemoryIn {
 }
 
 impl MemoryIn {
-    // An input of these pieces, without those that are empty.
+    /// An input of these pieces, without those that are empty.
     pub(crate) fn new(
         alloc: Global,
         mark: u64,
@@ -47,7 +47,7 @@ impl MemoryIn {
         })
     }
 
-    // Whether nothing keeps the input from its end. At the end of its bytes it waits at its gate.
+    /// Whether nothing keeps the input from its end. At the end of its bytes it waits at its gate.
     fn is_open(&mut self) -> bool
         ensures free { self.old.gate ≡ None → result ≡ true }
         ensures before { is_empty self.old.tape.left ≡ false → result ≡ true }

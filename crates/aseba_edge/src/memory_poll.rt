@@ -20,7 +20,7 @@ pub struct MemoryPoll {
 }
 
 impl MemoryPoll {
-    // An input of these answers, without pieces that are empty.
+    /// An input of these answers, without pieces that are empty.
     pub(crate) fn new(
         alloc: Global,
         mark: u64,

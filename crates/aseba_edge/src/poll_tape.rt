@@ -14,14 +14,14 @@ use std::marker::Model;
 #[derive(Debug, Drop)]
 pub(crate) struct PollTape {
     bytes: Vec<u8>,
-    // The turns as they were given. There is room for each that can come.
+    /// The turns as they were given. There is room for each that can come.
     given: Vec<Turn>,
-    // Where the bytes that were given end.
+    /// Where the bytes that were given end.
     at: usize,
-    // All turns. Those from `next` on haven't been begun.
+    /// All turns. Those from `next` on haven't been begun.
     turns: Vec<Turn>,
     next: usize,
-    // How much is left of the one before them.
+    /// How much is left of the one before them.
     rest: usize,
     has_ended: bool,
 }
@@ -42,7 +42,7 @@ impl Model for PollTape {
         × IsTape (length t.bytes.items) t.given.items t.at (pending t.rest (drop t.next t.turns.items)) };
 }
 
-// The turn that comes next, and the number of the one behind it.
+/// The turn that comes next, and the number of the one behind it.
 fn next_turn(turns: &[Turn], next: usize, rest: usize) -> Option<(Turn, usize)>
     ensures some { IfSome result (λ found.
         found.0 ∷ drop found.1 turns.now ≡ pending rest (drop next turns.now)) }
@@ -55,7 +55,7 @@ fn next_turn(turns: &[Turn], next: usize, rest: usize) -> Option<(Turn, usize)>
     Some((turn, next + 1))
 }
 
-// Lays an answer behind the others. An empty piece has no turn.
+/// Lays an answer behind the others. An empty piece has no turn.
 fn lay_answer(bytes: &mut Vec<u8>, turns: &mut Vec<Turn>, answer: &PollAnswer) -> Result<(), Mem>
     ensures bytes { OnOk result (bytes.new.items ≡ bytes.old.items ++ bytes_of answer.now) }
     ensures turns { OnOk result (turns.new.items ≡ turns.old.items ++ turn_of answer.now) }
@@ -78,7 +78,7 @@ fn lay_piece(bytes: &mut Vec<u8>, turns: &mut Vec<Turn>, piece: &[u8]) -> Result
     Ok(())
 }
 
-// Lays answers one behind the other.
+/// Lays answers one behind the other.
 fn lay(alloc: Global, answers: &[PollAnswer]) -> Result<(Vec<u8>, Vec<Turn>), Mem>
     ensures { IfOk result (λ laid. Laid laid.0.items laid.1.items (full answers.now)) }
 {

@@ -28,7 +28,7 @@ impl<R: time::Clock> SystemClock<R> {
         }
     }
 
-    // The milliseconds since the start, by the system.
+    /// The milliseconds since the start, by the system.
     fn reading(&self) -> u64
         ensures { result < 2 ^ 63 }
     {

@@ -43,7 +43,7 @@ impl<R: fs::Files> Files for SystemFiles<R> {
     }
 }
 
-// Opens a file and reads it to its end, unless it is longer than the limit.
+/// Opens a file and reads it to its end, unless it is longer than the limit.
 fn read_whole<R: fs::Files>(alloc: Global, rt: &R, name: &str, limit: u64) -> io::Result<FileAnswer>
     ensures within { IfOk result (λ answer. IsWithin limit answer) }
     ensures done { IfOk result (λ answer. is_failed answer ≡ false) }

@@ -10,14 +10,14 @@ use std::marker::Model;
 #[derive(Debug, Drop)]
 pub(crate) struct Tape {
     bytes: Vec<u8>,
-    // The lengths of the pieces as they were given. There is room for one per byte.
+    /// The lengths of the pieces as they were given. There is room for one per byte.
     given: Vec<usize>,
-    // Where the bytes that were given end.
+    /// Where the bytes that were given end.
     at: usize,
-    // The lengths of all pieces. Those from `next` on haven't been begun.
+    /// The lengths of all pieces. Those from `next` on haven't been begun.
     sizes: Vec<usize>,
     next: usize,
-    // How much is left of the one before them.
+    /// How much is left of the one before them.
     rest: usize,
     has_ended: bool,
 }
@@ -36,7 +36,7 @@ impl Model for Tape {
         × IsTape (length t.bytes.items) t.given.items t.at (pending t.rest (drop t.next t.sizes.items)) };
 }
 
-// Lays a piece behind the others. An empty one has no length.
+/// Lays a piece behind the others. An empty one has no length.
 #[tactic(auto, using(crate::proofs::Tapes::size_of_empty, crate::proofs::Tapes::size_of_some))]
 fn lay_piece(bytes: &mut Vec<u8>, sizes: &mut Vec<usize>, piece: &[u8]) -> Result<(), Mem>
     ensures bytes { OnOk result (bytes.new.items ≡ bytes.old.items ++ piece.now) }
@@ -49,7 +49,7 @@ fn lay_piece(bytes: &mut Vec<u8>, sizes: &mut Vec<usize>, piece: &[u8]) -> Resul
     Ok(())
 }
 
-// Lays pieces one behind the other.
+/// Lays pieces one behind the other.
 fn lay(alloc: Global, pieces: &[List<u8>]) -> Result<(Vec<u8>, Vec<usize>), Mem>
     ensures { IfOk result (λ laid. Laid laid.0.items laid.1.items (full pieces.now)) }
 {
@@ -61,7 +61,7 @@ fn lay(alloc: Global, pieces: &[List<u8>]) -> Result<(Vec<u8>, Vec<usize>), Mem>
     Ok((bytes, sizes))
 }
 
-// The length of what is given next, and the number of the piece behind it.
+/// The length of what is given next, and the number of the piece behind it.
 fn next_piece(sizes: &[usize], next: usize, rest: usize) -> Option<(usize, usize)>
     ensures some { IfSome result (λ found.
         found.0 ∷ drop found.1 sizes.now ≡ pending rest (drop next sizes.now)) }

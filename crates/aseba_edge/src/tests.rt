@@ -10,7 +10,7 @@ use std::alloc::Global;
 use std::io;
 use std::test::Fail;
 
-// What a program over files and a sink may end with.
+/// What a program over files and a sink may end with.
 #[derive(Debug, Drop, PartialEq)]
 enum Trouble {
     Missing,
@@ -28,7 +28,7 @@ impl From<PutFault> for Trouble {
     }
 }
 
-// Code over the traits can give a cause for each of its answers, and can't invent one.
+/// Code over the traits can give a cause for each of its answers, and can't invent one.
 fn load<F: Files>(alloc: Global, files: &mut F, name: &str) -> Result<List<u8>, Trouble>
     ensures bytes { IfOk result (λ bytes. IfSome (F.contents files.old) (λ held. held name.now ≡ Some bytes)) }
     ensures missing { IsErrOf result Missing →
@@ -46,7 +46,7 @@ fn load<F: Files>(alloc: Global, files: &mut F, name: &str) -> Result<List<u8>, 
     }
 }
 
-// Puts in a row take a text, or its first bytes.
+/// Puts in a row take a text, or its first bytes.
 #[tactic(auto, using(crate::proofs::Puts::puts))]
 fn copy_line<F: Files, S: Sink>(
     alloc: Global,
@@ -206,7 +206,7 @@ fn the_systems_clock_waits(rt: HostRuntime) {
     assert!(rt; before + 2 <= clock.now_ms());
 }
 
-// A writer that takes a byte at a time, is interrupted before each, and at last takes nothing.
+/// A writer that takes a byte at a time, is interrupted before each, and at last takes nothing.
 #[derive(Drop)]
 struct Slow {
     left: usize,
@@ -242,7 +242,7 @@ fn a_writer_that_takes_nothing_more_has_failed(rt: HostRuntime) {
     assert_eq!(rt; out.put(b"def"), Err(PutFault { taken: 2 }));
 }
 
-// Reading a link to its end gives what it had left.
+/// Reading a link to its end gives what it had left.
 fn read_all<I: LinkIn>(alloc: Global, input: &mut I) -> Result<Vec<u8>, Trouble>
     ensures bytes { IfOk result (λ bytes. Gave (I.contents input.old) bytes.items (I.contents input.new)) }
     ensures ended { OnOk result (IfSome (I.contents input.new) (λ input. input.left ≡ [])) }

@@ -23,8 +23,8 @@ impl<W> WriterSink<W> {
     }
 }
 
-// Writes once, and answers how many bytes were taken: none where the write was interrupted. The
-// writer has failed where there is no answer.
+/// Writes once, and answers how many bytes were taken: none where the write was interrupted. The
+/// writer has failed where there is no answer.
 fn write_some<W: Write>(writer: &mut W, piece: &[u8]) -> Option<usize>
     ensures within { IfSome result (λ count. count ≤ length piece.now) }
     ensures written { IfSome result (λ count.
@@ -39,8 +39,8 @@ fn write_some<W: Write>(writer: &mut W, piece: &[u8]) -> Option<usize>
     }
 }
 
-// Writes until all is written, the writer fails or it takes nothing, and answers how many bytes
-// were taken.
+/// Writes until all is written, the writer fails or it takes nothing, and answers how many bytes
+/// were taken.
 #[tactic(auto, using(crate::proofs::Written::write_more, crate::proofs::Written::write_none, crate::proofs::Written::write_nothing))]
 fn write_on<W: Write>(writer: &mut W, piece: &[u8]) -> usize
     ensures within { result ≤ length piece.now }
