@@ -11,6 +11,14 @@ is_failed TooBig = false
 is_failed Failed = true
 is_failed Mem = false
 
+-- the answer that no file has the name
+abbrev pub is_absent : FileAnswer → Bool
+is_absent (Bytes bytes) = false
+is_absent Absent = true
+is_absent TooBig = false
+is_absent Failed = false
+is_absent Mem = false
+
 -- what is given is no longer than the limit
 abbrev pub IsWithin : ℕ → FileAnswer → Type 0
 IsWithin limit (Bytes bytes) = length bytes ≤ limit

@@ -1,5 +1,6 @@
-ghost use Rattle.std.specs.Prelude.{◌≡◌, None, IfOk, false};
-ghost use Rattle.aseba_edge.specs.Files.{IsWithin, is_failed};
+ghost use Rattle.std.specs.Prelude.{◌≡◌, ◌≢◌, IfErr, IfOk, IfSome, None, Some, false};
+ghost use Rattle.std.specs.IoError.{error_kind};
+ghost use Rattle.aseba_edge.specs.Files.{Answers, IsWithin, is_absent, is_failed};
 
 use crate::files::{FileAnswer, Files};
 use aseba_words::List;
@@ -47,12 +48,30 @@ impl<R: fs::Files> Files for SystemFiles<R> {
 fn read_whole<R: fs::Files>(alloc: Global, rt: &R, name: &str, limit: u64) -> io::Result<FileAnswer>
     ensures within { IfOk result (λ answer. IsWithin limit answer) }
     ensures done { IfOk result (λ answer. is_failed answer ≡ false) }
+    ensures there { IfOk result (λ answer. is_absent answer ≡ false) }
 {
     let mut file = fs::open(rt, name)?;
+    read_to_limit(alloc, &mut file, limit)
+}
+
+/// Reads what an input has left, unless that is longer than the limit. A read that was interrupted
+/// is tried again.
+pub(crate) fn read_to_limit<I: Read>(
+    alloc: Global,
+    input: &mut I,
+    limit: u64,
+) -> io::Result<FileAnswer>
+    ensures answer { IfOk result (λ answer.
+        IfSome (I.remaining input.old) (λ left. Answers (Some left) limit answer)) }
+    ensures within { IfOk result (λ answer. IsWithin limit answer) }
+    ensures done { IfOk result (λ answer. is_failed answer ≡ false) }
+    ensures there { IfOk result (λ answer. is_absent answer ≡ false) }
+    ensures retried { IfErr result (λ error. error_kind error ≢ ErrorKind.Interrupted) }
+{
     let mut bytes = Vec::new(alloc);
     let mut piece = [0u8; 4096];
     for _ in 0..u64::MAX {
-        let count = match file.read(&mut piece) {
+        let count = match input.read(&mut piece) {
             Err(error) if error.kind() == ErrorKind::Interrupted => continue,
             answer => answer?,
         };
@@ -66,5 +85,5 @@ fn read_whole<R: fs::Files>(alloc: Global, rt: &R, name: &str, limit: u64) -> io
             return Ok(FileAnswer::Mem);
         }
     }
-    Err(io::Error::from(ErrorKind::Interrupted))
+    Err(io::Error::from(ErrorKind::TimedOut))
 }

@@ -4,11 +4,12 @@ ghost use Rattle.aseba_edge.specs.Link.{Gave};
 ghost use Rattle.aseba_edge.specs.Sink.{Took, TookFirst};
 ghost use Rattle.aseba_edge.specs.declared.tests.Trouble.TheVariants.{Missing, Read, Write};
 
+use crate::system_files::read_to_limit;
 use crate::*;
 use aseba_words::{List, Mem, Name};
 use std::alloc::Global;
-use std::io;
 use std::test::Fail;
+use std::{fs, io};
 
 /// What a program over files and a sink may end with.
 #[derive(Debug, Drop, PartialEq)]
@@ -196,6 +197,73 @@ fn the_systems_files_are_read(rt: HostRuntime) {
         )
     );
     assert!(rt; matches!(files.read(rt.alloc(), "/", 100), FileAnswer::Failed));
+}
+
+#[test]
+fn the_systems_files_are_read_whole(rt: HostRuntime) -> Result<(), Fail> {
+    let path = "/proc/self/exe";
+    let held = fs::read(&rt, path)?;
+    let size = held.len() as u64;
+    assert!(rt; 10_000 < size);
+    let mut files = SystemFiles::new(&rt);
+    assert!(rt; matches!(files.read(rt.alloc(), path, size - 1), FileAnswer::TooBig));
+    let FileAnswer::Bytes(bytes) = files.read(rt.alloc(), path, size) else {
+        return Err(Fail::new("bytes"));
+    };
+    assert!(rt; bytes.as_slice() == held.as_slice());
+    Ok(())
+}
+
+/// A reader that gives up to three bytes at a time, is interrupted before each of its answers, and
+/// fails behind its last byte if it is to.
+#[derive(Drop)]
+struct Halting {
+    left: &'static [u8],
+    interrupts: bool,
+    fails: bool,
+}
+
+impl Halting {
+    fn new(left: &'static [u8], fails: bool) -> Halting {
+        Halting {
+            left,
+            interrupts: false,
+            fails,
+        }
+    }
+}
+
+impl io::Read for Halting {
+    fn read(&mut self, buf: &mut [u8]) -> io::Result<usize> {
+        self.interrupts = !self.interrupts;
+        if self.interrupts {
+            return Err(io::Error::from(io::ErrorKind::Interrupted));
+        }
+        if self.fails && self.left.is_empty() {
+            return Err(io::Error::from(io::ErrorKind::BrokenPipe));
+        }
+        let room = buf.len().min(3);
+        io::Read::read(&mut self.left, &mut buf[..room])
+    }
+}
+
+#[test]
+fn an_interrupted_input_is_read_whole(rt: HostRuntime) -> Result<(), Fail> {
+    let mut input = Halting::new(b"abcdefgh", false);
+    let answer = read_to_limit(rt.alloc(), &mut input, 8)?;
+    let FileAnswer::Bytes(bytes) = answer else {
+        return Err(Fail::new("bytes"));
+    };
+    assert_eq!(rt; bytes.as_slice(), b"abcdefgh".as_slice());
+    let mut input = Halting::new(b"abcdefgh", false);
+    let answer = read_to_limit(rt.alloc(), &mut input, 7)?;
+    assert!(rt; matches!(answer, FileAnswer::TooBig));
+    let mut input = Halting::new(b"abcdefgh", true);
+    let Err(error) = read_to_limit(rt.alloc(), &mut input, 8) else {
+        return Err(Fail::new("fault"));
+    };
+    assert_eq!(rt; error.kind(), io::ErrorKind::BrokenPipe);
+    Ok(())
 }
 
 #[test]
