@@ -268,10 +268,12 @@ fn an_interrupted_input_is_read_whole(rt: HostRuntime) -> Result<(), Fail> {
 
 #[test]
 fn the_systems_clock_waits(rt: HostRuntime) {
+    let mut other = SystemClock::new(&rt);
     let mut clock = SystemClock::new(&rt);
-    let before = clock.now_ms();
-    clock.wait_until(before + 2);
-    assert!(rt; before + 2 <= clock.now_ms());
+    clock.wait_until(20);
+    let passed = other.now_ms();
+    assert!(rt; 20 <= passed);
+    assert!(rt; passed < 10_000);
 }
 
 /// A writer that takes a byte at a time, is interrupted before each, and at last takes nothing.
