@@ -14,7 +14,8 @@ use std::alloc::Global;
 
 /// The input of a link in memory. It gives its pieces one by one. Given reads fail, the first being
 /// number 1. One with a gate waits at the end of its bytes until its output has taken a number of
-/// bytes, and fails where that hasn't come in 1,000,000 turns.
+/// bytes, and fails where that hasn't come in 1,000,000 turns. A read into an empty buffer asks no
+/// gate.
 #[derive(Drop)]
 pub struct MemoryIn {
     tape: Tape,
@@ -65,6 +66,17 @@ impl MemoryIn {
             None => true,
         }
     }
+
+    /// Counts a fault.
+    fn fail(&mut self) -> LinkFault
+        ensures count { Counts true self.old.plan.faults self.new.plan.faults }
+        ensures faults { self.new.plan ≡
+            record self.old.plan { faults = next_call self.old.plan.faults } }
+        ensures rest { self.new ≡ record self.old { plan = self.new.plan } }
+    {
+        self.plan.fail();
+        LinkFault
+    }
 }
 
 impl MemoryIn {
@@ -106,14 +118,20 @@ impl LinkIn for MemoryIn {
             IsErr result → IsStuck self.new.gate }
         ensures until { until_of self.new.gate ≡ until_of self.old.gate }
         ensures turns { turns_of self.new.gate ≤ turns_of self.old.gate }
+        ensures no_room { is_named self.old.plan.failing (next_call self.old.plan.calls) ≡ false →
+            length buf.old ≡ 0 → IsOk result }
+        ensures untouched { length buf.old ≡ 0 →
+            self.new ≡ record self.old { plan = self.new.plan } }
         ensures plan { self.new.plan ≡ after_call (is_err result) self.old.plan }
     {
-        if self.plan.begin() || !self.is_open() {
-            self.plan.fail();
-            return Err(LinkFault);
+        if self.plan.begin() {
+            return Err(self.fail());
         }
         if buf.is_empty() {
             return Ok(0);
+        }
+        if !self.is_open() {
+            return Err(self.fail());
         }
         Ok(self.tape.read(buf))
     }
