@@ -28,6 +28,7 @@ impl Gate {
     pub(crate) fn new(alloc: Global, until: u64) -> Result<Gate, Mem>
         ensures until { IfOk result (λ gate. gate.until ≡ until) }
         ensures turns { IfOk result (λ gate. gate.turns ≡ 1000000) }
+        ensures taken { IfOk result (λ gate. gate.taken ≡ 0) }
     {
         let word = Arc::new(alloc, AtomicU64::new(0))?;
         Ok(Gate {
@@ -39,7 +40,11 @@ impl Gate {
     }
 
     /// The same gate, for the output.
-    pub(crate) fn share(&self) -> Result<Gate, Mem> {
+    pub(crate) fn share(&self) -> Result<Gate, Mem>
+        ensures until { IfOk result (λ gate. gate.until ≡ self.now.until) }
+        ensures turns { IfOk result (λ gate. gate.turns ≡ self.now.turns) }
+        ensures taken { IfOk result (λ gate. gate.taken ≡ self.now.taken) }
+    {
         Ok(Gate {
             word: Arc::try_clone(&self.word)?,
             until: self.until,

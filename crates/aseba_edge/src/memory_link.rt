@@ -49,7 +49,7 @@ pub struct MemoryLink {
 }
 
 impl MemoryLink {
-    ghost use Rattle.std.specs.Prelude.{IfOk, None, is_some, true};
+    ghost use Rattle.std.specs.Prelude.{IfOk, None};
     ghost use Rattle.aseba_edge.specs.Gate.{IsGated};
     ghost use Rattle.aseba_edge.specs.Tape.{full};
 
@@ -93,7 +93,7 @@ impl MemoryLink {
         ensures puts { IfOk result (λ link. link.output.sink.plan ≡
             record { failing = script.failing_puts; calls = 0; faults = 0 }) }
         ensures gate { IfOk result (λ link. IsGated until 1000000 link.input.gate) }
-        ensures tells { IfOk result (λ link. is_some link.output.gate ≡ true) }
+        ensures tells { IfOk result (λ link. IsGated until 1000000 link.output.gate) }
     {
         let LinkScript {
             mark,
