@@ -16,6 +16,5 @@ pub mod StraightSound
 pub mod StraightSource
 pub mod StraightStanding
 pub mod StraightSteps
-pub mod StraightSums
 pub mod StraightValues
 pub mod StraightWords

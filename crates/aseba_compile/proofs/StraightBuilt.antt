@@ -1,10 +1,9 @@
--- What is made of a source of straight lines is its meaning's core, and its numbers.
+-- What is made of a source of straight lines is its meaning's core.
 use Rattle.std.proofs.Common.{◌≡◌, refl, sym, ◌∙◌, ap, ℕ, suc, ◌+◌, ◌≤◌, Bool, true, ◌&&◌, not, List, [], ◌∷◌, ◌++◌, arith, Option, Some, None, length, append_assoc, map}
-use Rattle.std.specs.Prelude.{cond, max, nat_lt, sum_by, bytes_eq, filter_map}
+use Rattle.std.specs.Prelude.{cond, nat_lt, bytes_eq, filter_map}
 use Rattle.std.specs.List.{position_or_len}
 use Rattle.std.proofs.lemmas.Bool.{eqb-true, le-leb, ltb-true}
 use Rattle.std.proofs.lemmas.List.{length-map}
-use Rattle.std.proofs.lemmas.List.Sums.{sum_by-cons}
 use Rattle.aseba_tree.specs.declared.description.Sized as code
 use Rattle.aseba_tree.specs.declared.decl.Decl as code_decl
 use Rattle.aseba_tree.specs.declared.stmt.Stmt as code_stmt
@@ -14,12 +13,11 @@ use Rattle.aseba_tree.specs.View as view
 use Rattle.aseba_tree.specs.State.{Program, assignment, in_front}
 use Rattle.aseba_tree.specs.Core.{CoreStmt, core_stmt, core_stmts}
 use Rattle.aseba_tree.specs.CoreStep.{address_of}
-use Rattle.aseba_tree.specs.CoreNumbers.{core_form_words, core_form_depth, core_list_words, core_list_depth}
 use Rattle.aseba_tree.specs.Layout.{variables}
 use Rattle.aseba_tree.specs.Elements.{variable_place, elements_of_form, element_of}
 use Rattle.aseba_tree.proofs.SizeLaws.{both_left, both_right}
 use Rattle.aseba_compile.specs.Straight.{is_cell, adds, is_sum, is_sum_form, is_all, is_straight_form, address, event_place, core_form_of, core_stmt_of, core_stmts_of}
-use Rattle.aseba_compile.specs.StraightRead.{Meanings, address_in, element_in, form_element, number_in, low, core_form_in, core_stmt_in, value_in, values_in, stmts_in, stmt_words, stmt_depth, deepest_in}
+use Rattle.aseba_compile.specs.StraightRead.{Meanings, address_in, element_in, form_element, number_in, low, core_form_in, core_stmt_in, value_in, values_in, stmts_in}
 use Rattle.aseba_compile.proofs.StraightCore.{event-inside}
 use Rattle.aseba_compile.proofs.StraightMeanings.{meanings_of}
 use Rattle.aseba_compile.proofs.StraightShape.{constant_named, has_value, is_value, has_event, are_named}
@@ -142,43 +140,6 @@ init-listed program events (d ∷ ds) ss q few_events h =
     ∙ value-listed program (decl_view d) (map decl_view ds) (stmts_of (map stmt_view ss)) (decl_view d).value (values_in (source_known program) ds ++ stmts_in events (source_known program) ss) refl h
     (λ good. init-listed program events ds ss q few_events good)
 
--- Numbers
-
 pub listed : (program : Program) (ss : Stmts) → view.core_stmts_of (core_list program ss) ≡ core_stmts_of program ss
 listed program no_stmts = refl
 listed program (stmts s ss) = ap (core_stmts (core_stmt_of program s)) (listed program ss)
-
-form-words : (program : Program) (line : ℕ) (form : StmtForm) → is_named program form ≡ true
-    → (stmt_words (core_stmt line (core_form_of program form)) ≡ core_form_words program.project (core_form_of program form))
-    × (stmt_depth (core_stmt line (core_form_of program form)) ≡ core_form_depth (λ n. 0) (core_form_of program form))
-form-words program line (assign target e) h = (refl, refl)
-form-words program line (emit name None) h = (refl, refl)
-form-words program line (emit name (Some i)) h = cc
-form-words program line (change target op i) h = cc
-form-words program line (bump target op) h = cc
-form-words program line (if_then c body other) h = cc
-form-words program line (when_do c body) h = cc
-form-words program line (while_do c body) h = cc
-form-words program line (for_do head body) h = cc
-form-words program line (callsub name) h = cc
-form-words program line (call name es) h = cc
-form-words program line return h = cc
-
-pub list-words : (program : Program) (ss : Stmts) → are_named program ss ≡ true → sum_by stmt_words (core_list program ss) ≡ core_list_words program.project (core_stmts_of program ss)
-list-words program no_stmts h = refl
-list-words program (stmts (stmt line place form) ss) h =
-    let first = is_named program form in
-    let rest = are_named program ss in
-    let here = form-words program line form (both_left first rest h) in
-    let others = list-words program ss (both_right first rest h) in
-    omega (arith, sum_by-cons stmt_words (core_stmt line (core_form_of program form)) (core_list program ss), here.0, others)
-
-pub list-depth : (program : Program) (ss : Stmts) (most : ℕ) → are_named program ss ≡ true
-    → deepest_in most (core_list program ss) ≡ max most (core_list_depth (λ n. 0) (core_stmts_of program ss))
-list-depth program no_stmts most h = omega arith
-list-depth program (stmts (stmt line place form) ss) most h =
-    let first = is_named program form in
-    let rest = are_named program ss in
-    let here = form-words program line form (both_left first rest h) in
-    let others = list-depth program ss (max most (stmt_depth (core_stmt line (core_form_of program form)))) (both_right first rest h) in
-    omega (arith, here.1, others)

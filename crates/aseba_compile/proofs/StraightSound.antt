@@ -8,7 +8,7 @@ use Rattle.std.proofs.lemmas.List.Sums.{list_all-from_AllPass}
 use Rattle.std.proofs.lemmas.Slice.Eq.{bytes_eq-Decides}
 use Rattle.aseba_words.specs.declared.operators.Binary.{Binary}
 use Rattle.aseba_words.specs.declared.operators.Binary.TheVariants.{Add, Sub}
-use Rattle.aseba_tree.specs.Code.{Name, Place, Expr, expr, Form, number, whole, index, range, items, one, two, Part, all, at, stmt, StmtForm, assign, change, bump, if_then, when_do, while_do, for_do, emit, callsub, call, return, Stmts, no_stmts, stmts, Decl, Handler, Sized, Const}
+use Rattle.aseba_tree.specs.Code.{Name, Place, Expr, expr, Form, number, whole, index, range, items, one, two, Part, all, stmt, StmtForm, assign, change, bump, if_then, when_do, while_do, for_do, emit, callsub, call, return, Stmts, no_stmts, stmts, Decl, Handler, Sized, Const}
 use Rattle.aseba_tree.specs.Value.{as_place, constant}
 use Rattle.aseba_tree.specs.State.{Program, declared_size, assignment, in_front, init_code, node_variables}
 use Rattle.aseba_tree.specs.CoreStep.{address_from, address_of}

@@ -1,6 +1,6 @@
 -- What is made of a source is what it is.
-use Rattle.std.proofs.Common.{◌≡◌, refl, sym, ◌∙◌, ap, ℕ, ◌+◌, ◌≤◌, Bool, true, false, ◌&&◌, not, List, [], ◌∷◌, ◌++◌, arith, Option, Some, None, length, map}
-use Rattle.std.specs.Prelude.{sum_by, filter, filter_map, Result, Ok, Err}
+use Rattle.std.proofs.Common.{◌≡◌, refl, sym, ◌∙◌, ap, ◌≤◌, Bool, true, false, ◌&&◌, List, [], ◌∷◌, ◌++◌, arith, Option, Some, None, length, map}
+use Rattle.std.specs.Prelude.{filter_map, Result, Ok, Err}
 use Rattle.std.specs.List.{list_all}
 use Rattle.std.proofs.lemmas.List.Folds.{list_all-map}
 use Rattle.aseba_tree.specs.declared.decl.Decl as code_decl
@@ -9,31 +9,30 @@ use Rattle.aseba_tree.specs.declared.source.Source.{Source}
 use Rattle.aseba_tree.specs.declared.source.Handler as code_handler
 use Rattle.aseba_tree.specs.declared.project.Project.{Project}
 use Rattle.aseba_tree.specs.declared.core_tree.Core.{Core}
-use Rattle.aseba_tree.specs.Inside.{InsideProject}
-use Rattle.aseba_tree.specs.Code.{Name, Const, Decl, Expr, Handler, Stmts}
+use Rattle.aseba_tree.specs.Code.{Name, Const, Decl, Expr, Stmts}
 use Rattle.aseba_tree.specs.View.{const_view, decl_view, stmt_view, stmts_of, handler_view, project_view, source_view}
 use Rattle.aseba_tree.specs.View as view
-use Rattle.aseba_tree.specs.State.{Program, assignment, in_front, init_code}
-use Rattle.aseba_tree.specs.Layout.{variables, layout, cells_of_variables}
-use Rattle.aseba_tree.specs.Shape.{IsTree}
-use Rattle.aseba_tree.specs.Soundness.{Sound}
-use Rattle.aseba_tree.specs.Numbers.{source_words, source_depth, stmts_depth, part_words, depth_of_sub, greatest}
+use Rattle.aseba_tree.specs.State.{assignment, in_front, init_code}
+use Rattle.aseba_tree.specs.Layout.{variables, layout}
 use Rattle.aseba_codegen.specs.Agrees as machine
+use Rattle.aseba_check.specs.declared.checked.Checked.{Checked}
 use Rattle.aseba_check.specs.declared.checked.Placed.{Placed}
+use Rattle.aseba_check.specs.declared.counting.total.Numbers.{Numbers}
+use Rattle.aseba_check.specs.Accepted.{IsChecked}
+use Rattle.aseba_check.specs.CountedNumbers.{AreNumbers}
 use Rattle.aseba_compile.specs.declared.refusal.Refusal.{Refusal}
 use Rattle.aseba_compile.specs.declared.refusal.Refusal.TheVariants.{NotBuilt, Mem}
 use Rattle.aseba_check.specs.Places.{placed_view}
 use Rattle.aseba_check.specs.Refused.{program_in}
 use Rattle.aseba_compile.specs.Straight.{any, is_sum, has_no_parts, has_only_built_forms, is_straight_stmt, are_straight, is_cell}
-use Rattle.aseba_compile.specs.StraightRead.{nothing, with_constants, with_places, are_cells, is_built_value, no_parts, has_built_forms_in, source_meanings, values_in, stmts_in, init_in, stmt_words, deepest_in, IsBuiltCore, IsCoreIn}
+use Rattle.aseba_compile.specs.StraightRead.{nothing, with_constants, with_places, are_cells, is_built_value, no_parts, has_built_forms_in, source_meanings, values_in, stmts_in, init_in, IsBuiltCore, IsCoreIn}
 use Rattle.aseba_compile.specs.StraightRun.{HasCellConstants}
 use Rattle.aseba_compile.specs.StraightAnswer.{IsStraightAnswer}
 use Rattle.aseba_compile.proofs.StraightMeanings.{names-known, cell-same}
 use Rattle.aseba_compile.proofs.StraightShape.{IsStraight}
 use Rattle.aseba_compile.proofs.StraightSound.{straight-of}
 use Rattle.aseba_compile.proofs.StraightCompiled.{sizes-inside}
-use Rattle.aseba_compile.proofs.StraightCore as cores
-use Rattle.aseba_compile.proofs.StraightBuilt.{source_known, core_list, init-listed, listed, list-words, list-depth}
+use Rattle.aseba_compile.proofs.StraightBuilt.{source_known, core_list, init-listed, listed}
 
 parts-same : (hs : List code_handler.Handler) → no_parts hs ≡ has_no_parts (map handler_view hs)
 parts-same [] = refl
@@ -76,7 +75,7 @@ read-forms project source places e =
 read-constants : (project : Project) → are_cells project.consts ≡ true → HasCellConstants (project_view project)
 read-constants project e = list_all-map (λ (c : Const). machine.is_cell c.value) const_view project.consts ∙ e
 
--- Statements and numbers
+-- Statements
 
 read-init : (project : Project) (source : Source) (places : List Placed) → map placed_view places ≡ layout (program_in project source) → IsStraight (program_in project source) → length project.events ≤ 65535
     → init_in (source_meanings project places) project source ≡ core_list (program_in project source) (init_code (source_view source))
@@ -85,45 +84,21 @@ read-init project source places e is few_events =
     ap (λ m. values_in m source.vars ++ stmts_in project.events m source.init) (read-known project source places e)
     ∙ init-listed program project.events source.vars source.init refl few_events is.init
 
-read-words : (program : Program) → IsStraight program → sum_by stmt_words (core_list program (init_code program.source)) + 4 ≡ source_words program
-read-words program is =
-    let more = cores.all-counted program (init_code program.source) is.constants is.init in
-    let words = list-words program (init_code program.source) is.init in
-    let no_words : sum_by (part_words program) program.source.parts ≡ 0 = ap (sum_by (part_words program)) is.parts in
-    let no_entries : length (filter (λ h. not h.is_sub) program.source.parts) ≡ 0 = ap (λ ps. length (filter (λ (h : Handler). not h.is_sub) ps)) is.parts in
-    omega (arith, more.words, words, no_words, no_entries)
-
-read-depth : (program : Program) → IsStraight program → deepest_in 0 (core_list program (init_code program.source)) ≡ source_depth program
-read-depth program is =
-    let more = (cores.all-counted program (init_code program.source) is.constants is.init).depth (λ n. 0) (depth_of_sub program) in
-    let deep = list-depth program (init_code program.source) 0 is.init in
-    let none : greatest (map (λ h. stmts_depth program (depth_of_sub program) h.body) (filter (λ h. not h.is_sub) program.source.parts)) ≡ 0 =
-    ap (λ ps. greatest (map (λ (h : Handler). stmts_depth program (depth_of_sub program) h.body) (filter (λ (h : Handler). not h.is_sub) ps))) is.parts in
-    omega (arith, more, deep, none)
-
--- what a source is whose core is asked for
-pub record IsAsked (project : Project) (source : Source) (places : List Placed) (cells : ℕ) : Type 0 where
-  pub inside : InsideProject project
-  pub is_tree : IsTree (source_view source)
-  pub sound : Sound (program_in project source)
-  pub places_are : map placed_view places ≡ layout (program_in project source)
-  pub cells_are : cells ≡ cells_of_variables (program_in project source)
-
-built : (project : Project) (source : Source) (places : List Placed) (cells : ℕ) (core : Core) → IsAsked project source places cells → IsBuiltCore project source places cells core → IsStraightAnswer (program_in project source) (Ok core)
-built project source places cells core asked b =
-    let program = program_in project source in
-    let forms = sym (read-forms project source places asked.places_are) ∙ b.built in
+built : (project : Project) (checked : Checked) (numbers : Numbers) (core : Core) → IsChecked project checked → AreNumbers (program_in project checked.source) numbers → IsBuiltCore project checked numbers core
+    → IsStraightAnswer (program_in project checked.source) (Ok core)
+built project checked numbers core is_checked counted b =
+    let program = program_in project checked.source in
+    let forms = sym (read-forms project checked.source checked.places is_checked.places) ∙ b.built in
     let constants = read-constants project b.constants in
-    let is = straight-of program (sizes-inside project.node.variables asked.inside.node.variables.each.each) asked.is_tree asked.sound forms constants in
-    let few_events : length project.events ≤ 65535 = let most = asked.inside.events.few in omega arith in
-    let init = read-init project source places asked.places_are is few_events in
+    let is = straight-of program (sizes-inside project.node.variables is_checked.inside.node.variables.each.each) is_checked.is_tree is_checked.sound forms constants in
+    let few_events : length project.events ≤ 65535 = let most = is_checked.inside.events.few in omega arith in
+    let init = read-init project checked.source checked.places is_checked.places is few_events in
     let listed_is = ap view.core_stmts_of (b.init ∙ init) ∙ listed program (init_code program.source) in
-    let size = b.size ∙ ap (λ t. sum_by stmt_words t + 4) init ∙ read-words program is in
-    let depth = b.deep ∙ ap (deepest_in 0) init ∙ read-depth program is in
-    (forms, constants, rw (listed_is, b.parts, b.cells_are ∙ asked.cells_are, b.room, size, depth) refl)
+    (forms, constants, rw (listed_is, b.parts, b.cells ∙ is_checked.cells, b.room, b.size ∙ counted.size, b.depth ∙ counted.depth) refl)
 
-pub answered : (project : Project) (source : Source) (places : List Placed) (cells : ℕ) (r : Result Core Refusal) → IsAsked project source places cells → IsCoreIn project source places cells r → IsStraightAnswer (program_in project source) r
-answered project source places cells (Ok core) asked h = built project source places cells core asked h
-answered project source places cells (Err NotBuilt) asked h = sym (read-forms project source places asked.places_are) ∙ h
-answered project source places cells (Err Mem) asked h = tt
-answered project source places cells (Err refusal) asked h = absurd h
+pub answered : (project : Project) (checked : Checked) (numbers : Numbers) (r : Result Core Refusal) → IsChecked project checked → AreNumbers (program_in project checked.source) numbers → IsCoreIn project checked numbers r
+    → IsStraightAnswer (program_in project checked.source) r
+answered project checked numbers (Ok core) is_checked counted h = built project checked numbers core is_checked counted h
+answered project checked numbers (Err NotBuilt) is_checked counted h = sym (read-forms project checked.source checked.places is_checked.places) ∙ h
+answered project checked numbers (Err Mem) is_checked counted h = tt
+answered project checked numbers (Err refusal) is_checked counted h = absurd h

@@ -4,7 +4,7 @@ use Rattle.std.specs.Prelude.{cond, nat_le, bytes_eq, find, slice_set, is_some, 
 use Rattle.std.proofs.lemmas.Bool.{lt-leb}
 use Rattle.std.proofs.lemmas.List.Folds.{find_at}
 use Rattle.std.proofs.lemmas.Slice.Eq.{bytes_eq-Decides}
-use Rattle.aseba_tree.specs.Code.{Name, Place, Expr, expr, Form, Part, all, at, Target, stmt, StmtForm, assign, change, bump, if_then, when_do, while_do, for_do, emit, callsub, call, return, Stmts, no_stmts, stmts, Sized, Project}
+use Rattle.aseba_tree.specs.Code.{Name, Place, Expr, expr, Form, Part, all, Target, stmt, StmtForm, assign, change, bump, if_then, when_do, while_do, for_do, emit, callsub, call, return, Stmts, no_stmts, stmts, Sized, Project}
 use Rattle.aseba_tree.specs.Line.{named, Report, sent}
 use Rattle.aseba_tree.specs.Value.{Cells, put_cell, value}
 use Rattle.aseba_tree.specs.State.{Program, finish, tasks, State, none_held}

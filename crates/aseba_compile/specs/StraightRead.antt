@@ -1,5 +1,5 @@
 -- What names mean while the core of a source is made, and what is made of its statements.
-use Rattle.std.specs.Prelude.{ℕ, ◌+◌, Bool, true, false, ◌&&◌, nat_eq, nat_lt, if◌then◌else◌, cond, sum_by, List, [], ◌∷◌, ◌++◌, bytes_eq, Option, Some, None, is_none, position, pos, max, option_map, option_to_list, ◌≡◌, map, Result, Ok, Err}
+use Rattle.std.specs.Prelude.{ℕ, Bool, true, false, ◌&&◌, nat_eq, nat_lt, if◌then◌else◌, cond, List, [], ◌∷◌, ◌++◌, bytes_eq, Option, Some, None, is_none, position, pos, option_map, option_to_list, ◌≡◌, map, Result, Ok, Err}
 use Rattle.std.specs.List.{list_all}
 use Rattle.indexmap.specs.IndexMap.{get}
 use Rattle.aseba_tree.specs.declared.description.Sized.{Sized}
@@ -11,14 +11,14 @@ use Rattle.aseba_tree.specs.Code.{Name}
 use Rattle.aseba_tree.specs.Layout as layouts
 use Rattle.aseba_tree.specs.View.{decl_view, stmt_view, core_stmt_view}
 use Rattle.aseba_tree.specs.Core.{CoreExpr, fixed, cell, infix_of, into, CoreForm, store, send, go_back, CoreStmt, core_stmt}
-use Rattle.aseba_tree.specs.declared.core_tree.CoreStmt as code
-use Rattle.aseba_tree.specs.Numbers.{words, depth}
 use Rattle.aseba_tree.specs.declared.source.Handler.{Handler}
 use Rattle.aseba_tree.specs.declared.source.Source.{Source}
 use Rattle.aseba_tree.specs.declared.project.Project.{Project}
 use Rattle.aseba_tree.specs.declared.core_tree.Core.{Core}
 use Rattle.aseba_codegen.specs.Agrees.{is_cell}
+use Rattle.aseba_check.specs.declared.checked.Checked.{Checked}
 use Rattle.aseba_check.specs.declared.checked.Placed.{Placed}
+use Rattle.aseba_check.specs.declared.counting.total.Numbers.{Numbers}
 use Rattle.aseba_compile.specs.declared.refusal.Refusal.{Refusal}
 use Rattle.aseba_compile.specs.declared.refusal.Refusal.TheVariants.{NotBuilt, Mem}
 use Rattle.aseba_compile.specs.declared.straight.names.Names.{Names}
@@ -157,31 +157,6 @@ abbrev pub stmts_in : List Sized → Meanings → List Stmt → List CoreStmt
 stmts_in events meanings [] = []
 stmts_in events meanings (s ∷ ss) = core_stmt_in events meanings (stmt_view s) ∷ stmts_in events meanings ss
 
--- Numbers
-
--- the words and the stack cells of a statement that stores into a cell or sends
-abbrev pub flat_words : CoreForm → ℕ
-flat_words (store (into address) e) = words e + 1
-flat_words (send event address count) = 3
-flat_words _ = 0
-
-abbrev pub flat_depth : CoreForm → ℕ
-flat_depth (store (into address) e) = depth e
-flat_depth _ = 0
-
-abbrev pub stmt_words : CoreStmt → ℕ
-stmt_words (core_stmt line form) = flat_words form
-
-abbrev pub stmt_depth : CoreStmt → ℕ
-stmt_depth (core_stmt line form) = flat_depth form
-
-abbrev pub all_words : List code.CoreStmt → ℕ
-all_words ss = sum_by (λ s. stmt_words (core_stmt_view s)) ss
-
-abbrev pub deepest : ℕ → List code.CoreStmt → ℕ
-deepest most [] = most
-deepest most (s ∷ ss) = deepest (max most (stmt_depth (core_stmt_view s))) ss
-
 -- Sources
 
 -- what the names of a source mean, by the constants and the places of all variables
@@ -191,23 +166,19 @@ source_meanings project places = with_places (with_constants nothing project.con
 abbrev pub init_in : Meanings → Project → Source → List CoreStmt
 init_in meanings project source = values_in meanings source.vars ++ stmts_in project.events meanings source.init
 
-abbrev pub deepest_in : ℕ → List CoreStmt → ℕ
-deepest_in most [] = most
-deepest_in most (s ∷ ss) = deepest_in (max most (stmt_depth s)) ss
-
--- the core that is made of a source's statements
-pub record IsBuiltCore (project : Project) (source : Source) (places : List Placed) (cells : ℕ) (core : Core) : Type 0 where
-  pub built : has_built_forms_in (source_meanings project places) source ≡ true
+-- the core that is made of a checked source that has these numbers
+pub record IsBuiltCore (project : Project) (checked : Checked) (numbers : Numbers) (core : Core) : Type 0 where
+  pub built : has_built_forms_in (source_meanings project checked.places) checked.source ≡ true
   pub constants : are_cells project.consts ≡ true
-  pub init : map core_stmt_view core.init ≡ init_in (source_meanings project places) project source
+  pub init : map core_stmt_view core.init ≡ init_in (source_meanings project checked.places) project checked.source
   pub parts : core.parts ≡ []
-  pub cells_are : core.cells ≡ cells
+  pub cells : core.cells ≡ checked.cells
   pub room : core.room ≡ 0
-  pub size : core.size ≡ sum_by stmt_words (init_in (source_meanings project places) project source) + 4
-  pub deep : core.depth ≡ deepest_in 0 (init_in (source_meanings project places) project source)
+  pub size : core.size ≡ numbers.size
+  pub depth : core.depth ≡ numbers.depth
 
-abbrev pub IsCoreIn : Project → Source → List Placed → ℕ → Result Core Refusal → Type 0
-IsCoreIn project source places cells (Ok core) = IsBuiltCore project source places cells core
-IsCoreIn project source places cells (Err NotBuilt) = has_built_forms_in (source_meanings project places) source ≡ false
-IsCoreIn project source places cells (Err Mem) = Unit {0}
-IsCoreIn project source places cells (Err refusal) = ⊥
+abbrev pub IsCoreIn : Project → Checked → Numbers → Result Core Refusal → Type 0
+IsCoreIn project checked numbers (Ok core) = IsBuiltCore project checked numbers core
+IsCoreIn project checked numbers (Err NotBuilt) = has_built_forms_in (source_meanings project checked.places) checked.source ≡ false
+IsCoreIn project checked numbers (Err Mem) = Unit {0}
+IsCoreIn project checked numbers (Err refusal) = ⊥

@@ -1,10 +1,8 @@
-ghost use Rattle.std.specs.Prelude.{◌≡◌, ◌<◌, All, map, length, IfOk, IfErr};
+ghost use Rattle.std.specs.Prelude.{◌<◌, All, length, IfOk, IfErr};
 ghost use Rattle.aseba_tree.specs.Inside.{InsideProject};
-ghost use Rattle.aseba_tree.specs.Layout.{layout, cells_of_variables};
 ghost use Rattle.aseba_tree.specs.Shape.{IsTree};
-ghost use Rattle.aseba_tree.specs.Soundness.{Sound};
 ghost use Rattle.aseba_tree.specs.View.{project_view, source_view};
-ghost use Rattle.aseba_check.specs.Places.{placed_view};
+ghost use Rattle.aseba_check.specs.Accepted.{IsChecked};
 ghost use Rattle.aseba_check.specs.Refused.{program_in};
 ghost use Rattle.aseba_compile.specs.Compiled.{IsCompiled, IsProgram, IsRefused};
 ghost use Rattle.aseba_compile.specs.StraightWords.{IsTreeRefused};
@@ -13,9 +11,8 @@ use crate::program::Program;
 use crate::reading::read;
 use crate::refusal::Refusal;
 use crate::straight::straight_image;
-use aseba_check::{Checked, Placed, check};
+use aseba_check::{Checked, check, numbers};
 use aseba_tree::{Project, Source};
-use aseba_words::List;
 use std::alloc::Global;
 
 /// Compiles the text of a source for the node of a project. The refusal tells why there is none:
@@ -39,29 +36,21 @@ fn compile_tree(alloc: Global, project: &Project, source: &Source) -> Result<Pro
     ensures program { IfOk result (IsProgram (program_in project.now source.now)) }
     ensures refusal { IfErr result (IsTreeRefused (program_in project.now source.now)) }
 {
-    let Checked { places, cells, .. } = check(alloc, source, project)?;
-    compile_checked(alloc, project, source, places, cells)
+    let checked = check(alloc, source, project)?;
+    compile_checked(alloc, project, checked)
 }
 
-/// Compiles a sound tree whose variables lie in these places and take so many cells.
-fn compile_checked(
-    alloc: Global,
-    project: &Project,
-    source: &Source,
-    places: List<Placed>,
-    cells: u32,
-) -> Result<Program, Refusal>
-    requires inside { InsideProject project.now }
-    requires is_tree { IsTree (source_view source.now) }
-    requires sound { Sound (program_in project.now source.now) }
-    requires places { map placed_view places ≡ layout (program_in project.now source.now) }
-    requires cells { cells ≡ cells_of_variables (program_in project.now source.now) }
-    ensures program { IfOk result (IsProgram (program_in project.now source.now)) }
-    ensures refusal { IfErr result (IsTreeRefused (program_in project.now source.now)) }
+/// Compiles a checked source.
+fn compile_checked(alloc: Global, project: &Project, checked: Checked) -> Result<Program, Refusal>
+    requires { IsChecked project.now checked }
+    ensures program { IfOk result (IsProgram (program_in project.now checked.source)) }
+    ensures refusal { IfErr result (IsTreeRefused (program_in project.now checked.source)) }
 {
-    match straight_image(alloc, project, source, places.as_slice(), cells) {
+    let numbers = numbers(alloc, &checked, project)?;
+    match straight_image(alloc, project, &checked, numbers) {
         Ok(image) => {
             are_words(image.words.as_slice());
+            let Checked { places, .. } = checked;
             Ok(Program { image, places })
         }
         Err(refusal) => Err(refusal),

@@ -5,7 +5,6 @@ mod built;
 mod elements;
 mod image;
 mod names;
-mod sizes;
 mod statements;
 mod sums;
 

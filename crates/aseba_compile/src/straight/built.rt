@@ -1,10 +1,7 @@
 ghost use Rattle.std.specs.Prelude.{◌≡◌, true, map, IfOk, MatchResult};
-ghost use Rattle.aseba_tree.specs.Inside.{InsideProject};
-ghost use Rattle.aseba_tree.specs.Layout.{layout, cells_of_variables};
-ghost use Rattle.aseba_tree.specs.Shape.{IsTree};
-ghost use Rattle.aseba_tree.specs.Soundness.{Sound};
-ghost use Rattle.aseba_tree.specs.View.{core_stmt_view, source_view};
-ghost use Rattle.aseba_check.specs.Places.{placed_view};
+ghost use Rattle.aseba_tree.specs.View.{core_stmt_view};
+ghost use Rattle.aseba_check.specs.Accepted.{IsChecked};
+ghost use Rattle.aseba_check.specs.CountedNumbers.{AreNumbers};
 ghost use Rattle.aseba_check.specs.Refused.{program_in};
 ghost use Rattle.aseba_compile.specs.StraightAnswer.{IsStraightAnswer};
 ghost use Rattle.aseba_compile.specs.StraightRead.{are_cells, has_built_forms_in, init_in, IsCoreIn, looked, no_parts, source_meanings};
@@ -12,9 +9,8 @@ ghost use Rattle.aseba_compile.specs.StraightRead.{are_cells, has_built_forms_in
 use crate::refusal::Refusal;
 use crate::straight::elements::{add_stmts, add_values};
 use crate::straight::names::{Names, add_constants, add_places};
-use crate::straight::sizes::{all_words, deepest, sum};
 use crate::straight::statements::{are_built_stmts, are_built_values};
-use aseba_check::Placed;
+use aseba_check::{Checked, Numbers, Placed};
 use aseba_tree::{Core, CoreStmt, Handler, Project, Source};
 use aseba_words::{List, Mem};
 use std::alloc::Global;
@@ -64,47 +60,40 @@ fn init_of(
     Ok(init)
 }
 
-/// The core of a source whose variables lie in these places and take so many cells.
+/// The core of a checked source that has these numbers.
 fn core_in(
     alloc: Global,
     project: &Project,
-    source: &Source,
-    places: &[Placed],
-    cells: u32,
+    checked: &Checked,
+    numbers: Numbers,
 ) -> Result<Core, Refusal>
-    ensures { IsCoreIn project.now source.now places.now cells result }
+    ensures { IsCoreIn project.now checked.now numbers result }
 {
-    let names = names_of(alloc, project, places)?;
-    if !has_built_forms(&names, source) {
+    let names = names_of(alloc, project, checked.places.as_slice())?;
+    if !has_built_forms(&names, &checked.source) {
         return Err(Refusal::NotBuilt);
     }
-    let init = init_of(alloc, project, source, &names)?;
-    let size = sum(all_words(init.as_slice())?, 4)?;
-    let depth = deepest(init.as_slice())?;
+    let init = init_of(alloc, project, &checked.source, &names)?;
     Ok(Core {
         init,
         parts: List::new(alloc),
-        cells,
+        cells: checked.cells,
         room: 0,
-        size,
-        depth,
+        size: numbers.size,
+        depth: numbers.depth,
     })
 }
 
-/// The core of a sound source whose variables lie in these places and take so many cells.
+/// The core of a checked source that has these numbers, where all its forms are compiled.
 pub fn straight(
     alloc: Global,
     project: &Project,
-    source: &Source,
-    places: &[Placed],
-    cells: u32,
+    checked: &Checked,
+    numbers: Numbers,
 ) -> Result<Core, Refusal>
-    requires inside { InsideProject project.now }
-    requires is_tree { IsTree (source_view source.now) }
-    requires sound { Sound (program_in project.now source.now) }
-    requires places { map placed_view places.now ≡ layout (program_in project.now source.now) }
-    requires cells { cells ≡ cells_of_variables (program_in project.now source.now) }
-    ensures { IsStraightAnswer (program_in project.now source.now) result }
+    requires checked { IsChecked project.now checked.now }
+    requires numbers { AreNumbers (program_in project.now checked.now.source) numbers }
+    ensures { IsStraightAnswer (program_in project.now checked.now.source) result }
 {
-    core_in(alloc, project, source, places, cells)
+    core_in(alloc, project, checked, numbers)
 }

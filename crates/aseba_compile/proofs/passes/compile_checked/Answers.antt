@@ -3,4 +3,5 @@ use Rattle.aseba_compile.proofs.Programs.{program-is}
 use Rattle.aseba_compile.proofs.passes.compile_checked.Goals as goal
 
 pub returns-in-Ok-clause-program : goal.returns-in-Ok-clause-program
-returns-in-Ok-clause-program c = program-is (program_in c.args.project.now c.args.source.now) c.in-Ok.image c.args.places c.in-Ok.ensures (rw c.as_slice-in-Ok.ensures at c.are_words.ensures) c.requires.places
+returns-in-Ok-clause-program c =
+    program-is (program_in c.args.project.now c.args.checked.source) c.in-Ok.image c.args.checked.places c.in-Ok.ensures (rw c.as_slice.ensures at c.are_words.ensures) c.requires.places
