@@ -4,6 +4,8 @@ use Rattle.aseba_tree.specs.State.{Program}
 use Rattle.aseba_tree.specs.Layout.{cells_of_variables}
 use Rattle.aseba_tree.specs.Numbers.{source_words, source_depth}
 use Rattle.aseba_tree.specs.Soundness.{Sound}
+use Rattle.aseba_codegen.specs.declared.error.GenError.{GenError}
+use Rattle.aseba_codegen.specs.declared.error.GenError.TheVariants as gen
 use Rattle.aseba_codegen.specs.declared.image.Image.{Image}
 use Rattle.aseba_compile.specs.declared.refusal.Refusal.{Refusal}
 use Rattle.aseba_compile.specs.declared.refusal.Refusal.TheVariants.{Check, NotBuilt, CodeFull, StackFull, Mem}
@@ -36,3 +38,9 @@ pub record IsStraightImage (program : Program) (image : Image) : Type 0 where
 abbrev pub IsImageOf : Program → Result Image Refusal → Type 0
 IsImageOf program (Ok image) = IsStraightImage program image
 IsImageOf program (Err refusal) = IsTreeRefused program refusal
+
+-- what a refusal tells of a core that has no code on its node
+abbrev pub code_refusal : GenError → Refusal
+code_refusal (gen.CodeFull need have) = CodeFull need have
+code_refusal (gen.StackFull need have) = StackFull need have
+code_refusal gen.Mem = Mem

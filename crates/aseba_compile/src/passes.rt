@@ -23,10 +23,8 @@ pub fn compile(alloc: Global, text: &[u8], project: &Project) -> Result<Program,
     ensures program { IfOk result (IsCompiled (project_view project.now) text.now) }
     ensures refusal { IfErr result (IsRefused (project_view project.now) text.now) }
 {
-    match read(alloc, project, text) {
-        Ok(source) => compile_tree(alloc, project, &source),
-        Err(refusal) => Err(refusal),
-    }
+    let source = read(alloc, project, text)?;
+    compile_tree(alloc, project, &source)
 }
 
 /// Compiles a tree.
@@ -47,14 +45,10 @@ fn compile_checked(alloc: Global, project: &Project, checked: Checked) -> Result
     ensures refusal { IfErr result (IsTreeRefused (program_in project.now checked.source)) }
 {
     let numbers = numbers(alloc, &checked, project)?;
-    match straight_image(alloc, project, &checked, numbers) {
-        Ok(image) => {
-            are_words(image.words.as_slice());
-            let Checked { places, .. } = checked;
-            Ok(Program { image, places })
-        }
-        Err(refusal) => Err(refusal),
-    }
+    let image = straight_image(alloc, project, &checked, numbers)?;
+    are_words(image.words.as_slice());
+    let Checked { places, .. } = checked;
+    Ok(Program { image, places })
 }
 
 /// Words have 16 bits: it is known where they are seen as such.

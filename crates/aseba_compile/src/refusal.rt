@@ -1,9 +1,11 @@
 ghost use Rattle.std.specs.Prelude.{◌≡◌};
 ghost use Rattle.aseba_compile.specs.Checking.{check_refusal};
 ghost use Rattle.aseba_compile.specs.Reading.{lex_refusal, syntax_refusal};
+ghost use Rattle.aseba_compile.specs.StraightWords.{code_refusal};
 ghost use Rattle.aseba_compile.specs.declared.refusal.Refusal.TheVariants.{Mem as OutOfMemory};
 
 use aseba_check::CheckError;
+use aseba_codegen::GenError;
 use aseba_lexer::LexError;
 use aseba_parser::SyntaxError;
 use aseba_words::Mem;
@@ -80,6 +82,18 @@ impl From<CheckError> for Refusal {
             | CheckError::Recursion { .. }
             | CheckError::VariablesFull { .. }
             | CheckError::SubroutineFar { .. } => Refusal::Check(error),
+        }
+    }
+}
+
+impl From<GenError> for Refusal {
+    ghost from_gives = { λ error e. e ≡ code_refusal error };
+
+    fn from(error: GenError) -> Refusal {
+        match error {
+            GenError::CodeFull { need, have } => Refusal::CodeFull { need, have },
+            GenError::StackFull { need, have } => Refusal::StackFull { need, have },
+            GenError::Mem => Refusal::Mem,
         }
     }
 }

@@ -6,7 +6,7 @@ ghost use Rattle.aseba_compile.specs.StraightWords.{IsImageOf};
 use crate::refusal::Refusal;
 use crate::straight::built::straight;
 use aseba_check::{Checked, Numbers};
-use aseba_codegen::{GenError, Image, generate};
+use aseba_codegen::{Image, generate};
 use aseba_tree::Project;
 use std::alloc::Global;
 
@@ -23,13 +23,7 @@ pub fn straight_image(
 {
     // That it is a word is known where it is read.
     let _id = project.id;
-    match straight(alloc, project, checked, numbers) {
-        Ok(core) => match generate(alloc, &core, project) {
-            Ok(image) => Ok(image),
-            Err(GenError::CodeFull { need, have }) => Err(Refusal::CodeFull { need, have }),
-            Err(GenError::StackFull { need, have }) => Err(Refusal::StackFull { need, have }),
-            Err(GenError::Mem) => Err(Refusal::Mem),
-        },
-        Err(refusal) => Err(refusal),
-    }
+    let core = straight(alloc, project, checked, numbers)?;
+    let image = generate(alloc, &core, project)?;
+    Ok(image)
 }
