@@ -16,7 +16,7 @@ use Rattle.aseba_tree.specs.CoreStep.{address_of}
 use Rattle.aseba_tree.specs.Layout.{variables}
 use Rattle.aseba_tree.specs.Elements.{variable_place, elements_of_form, element_of}
 use Rattle.aseba_tree.proofs.SizeLaws.{both_left, both_right}
-use Rattle.aseba_compile.specs.Straight.{is_cell, adds, is_sum, is_sum_form, is_all, is_straight_form, address, event_place, core_form_of, core_stmt_of, core_stmts_of}
+use Rattle.aseba_compile.specs.Straight.{has_one_cell_named, adds, is_sum, is_sum_form, is_all, is_straight_form, address, event_place, core_form_of, core_stmt_of, core_stmts_of}
 use Rattle.aseba_compile.specs.StraightRead.{Meanings, address_in, element_in, form_element, number_in, low, core_form_in, core_stmt_in, value_in, values_in, stmts_in}
 use Rattle.aseba_compile.proofs.StraightCore.{event-inside}
 use Rattle.aseba_compile.proofs.StraightMeanings.{meanings_of}
@@ -51,7 +51,7 @@ sum-same program (one op i) e = cc
 element-same : (program : Program) (e : Expr) → is_sum (is_value program.project.consts (variables program)) e ≡ true → element_in (source_known program) e ≡ element_of program e
 element-same program (expr first place form) e = sym (rw (sum-same program form e) refl)
 
-start-same : (program : Program) (name : Name) → is_cell (variables program) name ≡ true → address_in (source_known program) name ≡ address program name
+start-same : (program : Program) (name : Name) → has_one_cell_named (variables program) name ≡ true → address_in (source_known program) name ≡ address program name
 start-same program name e = let place = cell_place (address_of (variables program) name) e in rw place.1 refl
 
 -- Events
@@ -76,12 +76,12 @@ number-same project events name e few signal =
 
 -- a statement form that names what there is
 abbrev is_named : Program → StmtForm → Bool
-is_named program form = is_straight_form (has_event program.project) (is_cell (variables program)) (is_value program.project.consts (variables program)) form
+is_named program form = is_straight_form (has_event program.project) (has_one_cell_named (variables program)) (is_value program.project.consts (variables program)) form
 
 form-same : (program : Program) (events : List code.Sized) (form : StmtForm) → program.project.events ≡ map sized_view events → length events ≤ 65535 → is_named program form ≡ true
     → core_form_in events (source_known program) form ≡ core_form_of program form
 form-same program events (assign target e) q few_events h =
-    let cells = is_cell (variables program) in
+    let cells = has_one_cell_named (variables program) in
     let names = is_value program.project.consts (variables program) in
     let front = both_left (is_all target.part && cells target.name) (is_sum names e) h in
     rw (start-same program target.name (both_right (is_all target.part) (cells target.name) front), element-same program e (both_right (is_all target.part && cells target.name) (is_sum names e) h)) refl
@@ -122,7 +122,7 @@ value-listed : (program : Program) (d : Decl) (ds : List Decl) (init : Stmts) (v
     → value_in (source_known program) d ++ rest ≡ core_list program (in_front (filter_map assignment (d ∷ ds)) init)
 value-listed program d ds init None rest v h deeper = rw v (deeper (rw v at h))
 value-listed program d ds init (Some e) rest v h deeper =
-    let cells = is_cell (variables program) in
+    let cells = has_one_cell_named (variables program) in
     let names = is_value program.project.consts (variables program) in
     let others_named = are_named program (in_front (filter_map assignment ds) init) in
     let good : (is_all all && cells d.name && is_sum names e && others_named) ≡ true = rw v at h in

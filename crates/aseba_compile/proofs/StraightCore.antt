@@ -152,11 +152,11 @@ emit-counted program name e =
 
 -- a statement form that names what there is
 abbrev is_named : Program → StmtForm → Bool
-is_named program form = source.is_straight_form (has_event program.project) (source.is_cell (variables program)) (is_value program.project.consts (variables program)) form
+is_named program form = source.is_straight_form (has_event program.project) (source.has_one_cell_named (variables program)) (is_value program.project.consts (variables program)) form
 
 form-counted : (program : Program) (form : StmtForm) → HasCellConstants program.project → is_named program form ≡ true → Counted program form
 form-counted program (assign target (expr first own form)) h e =
-    let cells = source.is_cell (variables program) in
+    let cells = source.has_one_cell_named (variables program) in
     let names = is_value program.project.consts (variables program) in
     let front = both_left (source.is_all target.part && cells target.name) (is_sum_form names form) e in
     let place = cell_place (address_of (variables program) target.name) (both_right (source.is_all target.part) (cells target.name) front) in

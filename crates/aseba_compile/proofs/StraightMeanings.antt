@@ -11,7 +11,7 @@ use Rattle.aseba_tree.specs.CoreStep.{address_from, address_of}
 use Rattle.aseba_tree.specs.Layout.{placed_from}
 use Rattle.aseba_compile.specs.declared.straight.names.Meaning.{Meaning}
 use Rattle.aseba_compile.specs.declared.straight.names.Meaning.TheVariants.{Variable, Constant}
-use Rattle.aseba_compile.specs.Straight.{has_one_cell, is_cell}
+use Rattle.aseba_compile.specs.Straight.{has_one_cell, has_one_cell_named}
 use Rattle.aseba_compile.specs.StraightRead.{Meanings, nothing, with_meaning, with_constant, with_constants, unless_variable, with_place, with_places, is_one_cell, has_cell}
 use Rattle.aseba_compile.proofs.StraightShape.{constant_named}
 
@@ -124,7 +124,7 @@ constants-known m (c ∷ cs) name = constants-known (with_constant m c) cs name 
 pub names-known : (cs : List code.Const) (vs : List Sized) → with_places (with_constants nothing cs) (placed_from 0 vs) ≡ meanings_of (map const_view cs) vs
 names-known cs vs = ap (λ m. with_places m (placed_from 0 vs)) (fun_ext (λ name. constants-known nothing cs name)) ∙ variables-behind (map const_view cs) [] vs 0 refl
 
-pub cell-same : (consts : List Const) (known : List Sized) → has_cell (meanings_of consts known) ≡ is_cell known
+pub cell-same : (consts : List Const) (known : List Sized) → has_cell (meanings_of consts known) ≡ has_one_cell_named known
 cell-same consts known = fun_ext (λ name. pick (address_of known name) (constant_named consts name))
   where
     pick : (o : Option (ℕ × ℕ)) (c : Option Const) → is_one_cell (meaning o c) ≡ has_one_cell o

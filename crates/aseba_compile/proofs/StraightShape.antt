@@ -6,7 +6,7 @@ use Rattle.aseba_tree.specs.Code.{Name, Part, all, at, span, Stmts, Sized, Const
 use Rattle.aseba_tree.specs.State.{Program, init_code, node_variables, declared}
 use Rattle.aseba_tree.specs.CoreStep.{address_of}
 use Rattle.aseba_tree.specs.Layout.{variables}
-use Rattle.aseba_compile.specs.Straight.{is_all, is_cell, are_straight}
+use Rattle.aseba_compile.specs.Straight.{is_all, has_one_cell_named, are_straight}
 use Rattle.aseba_compile.specs.StraightRun.{HasCellConstants}
 
 -- the part of a target that is the whole variable
@@ -32,7 +32,7 @@ has_event project name = is_some (find (λ event. bytes_eq event.name name) proj
 
 -- straight statements that name what there is
 abbrev pub are_named : Program → Stmts → Bool
-are_named program ss = are_straight (has_event program.project) (is_cell (variables program)) (is_value program.project.consts (variables program)) ss
+are_named program ss = are_straight (has_event program.project) (has_one_cell_named (variables program)) (is_value program.project.consts (variables program)) ss
 
 -- none of these variables has the name of one before it, nor of one that is known
 abbrev pub are_new : List Sized → List Sized → Bool

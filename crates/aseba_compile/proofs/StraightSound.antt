@@ -21,7 +21,7 @@ use Rattle.aseba_tree.specs.SoundLaws.{HasCells}
 use Rattle.aseba_tree.proofs.SizeLaws.{EachKnown, nil_left, nil_right, no_fault, not_false, both_left, both_right, expr_is_good}
 use Rattle.aseba_tree.proofs.SoundProofs.{all_left, all_right, one_more, decl_has_cells, node_has_cells, sound_is_faultless, sound_variables}
 use Rattle.aseba_tree.proofs.ConstantLaws.{known, constant_is_value, same_consts, sound_is_laid_out}
-use Rattle.aseba_compile.specs.Straight.{has_one_cell, is_cell, any, adds, is_sum, is_sum_form, is_all, is_straight_form, are_straight, has_no_parts, has_only_built_forms}
+use Rattle.aseba_compile.specs.Straight.{has_one_cell, has_one_cell_named, any, adds, is_sum, is_sum_form, is_all, is_straight_form, are_straight, has_no_parts, has_only_built_forms}
 use Rattle.aseba_compile.specs.StraightRun.{HasCellConstants, Fits}
 use Rattle.aseba_compile.proofs.StraightNames.{new-address, not-true}
 use Rattle.aseba_compile.proofs.StraightShape.{all_part, constant_named, has_value, is_value, has_event, are_named, are_new, IsStraight}
@@ -134,7 +134,7 @@ assigned-named consts vs place (expr first own form) h s e d =
 abbrev world_with : Program → List Name → World
 world_with program subs = record { scope = scope_of program.project.consts (variables program); project = program.project; subs = subs }
 
-target-named : (program : Program) (subs : List Name) (place tp : Place) (name : Name) (part : Part) (e : Expr) → EachKnown (map known (variables program)) → part ≡ all → is_cell (variables program) name ≡ true → is_sum any e ≡ true
+target-named : (program : Program) (subs : List Name) (place tp : Place) (name : Name) (part : Part) (e : Expr) → EachKnown (map known (variables program)) → part ≡ all → has_one_cell_named (variables program) name ≡ true → is_sum any e ≡ true
     → assignment_faults (scope_of program.project.consts (variables program)) place (record { place = tp; name = name; part = part }) e ≡ [] → is_sum (is_value program.project.consts (variables program)) e ≡ true
 target-named program subs place tp name part e h p c s f =
     let consts = program.project.consts in
@@ -147,9 +147,9 @@ target-named program subs place tp name part e h p c s f =
     (ap (λ n. sizes_differ bad_size place n (size_of scope e)) (sym (one-known vs 0 name c)) ∙ sizes)
 
 form-named : (program : Program) (subs : List Name) (place : Place) (form : StmtForm) → EachKnown (map known (variables program)) → stmt_form_faults (world_with program subs) place form ≡ []
-    → is_straight_form any (is_cell (variables program)) any form ≡ true → is_straight_form (has_event program.project) (is_cell (variables program)) (is_value program.project.consts (variables program)) form ≡ true
+    → is_straight_form any (has_one_cell_named (variables program)) any form ≡ true → is_straight_form (has_event program.project) (has_one_cell_named (variables program)) (is_value program.project.consts (variables program)) form ≡ true
 form-named program subs place (assign target e) h f s =
-    let ds = is_cell (variables program) in
+    let ds = has_one_cell_named (variables program) in
     let front = both_left (is_all target.part && ds target.name) (is_sum any e) s in
     let part = both_left (is_all target.part) (ds target.name) front in
     let cell = both_right (is_all target.part) (ds target.name) front in
@@ -171,11 +171,11 @@ form-named program subs place return h f s = cc
 both : (a b : Bool) → a ≡ true → b ≡ true → (a && b) ≡ true
 both a b p q = rw p q
 
-stmts-named : (program : Program) (subs : List Name) (ss : Stmts) → EachKnown (map known (variables program)) → stmts_faults (world_with program subs) ss ≡ [] → are_straight any (is_cell (variables program)) any ss ≡ true → are_named program ss ≡ true
+stmts-named : (program : Program) (subs : List Name) (ss : Stmts) → EachKnown (map known (variables program)) → stmts_faults (world_with program subs) ss ≡ [] → are_straight any (has_one_cell_named (variables program)) any ss ≡ true → are_named program ss ≡ true
 stmts-named program subs no_stmts h f s = refl
 stmts-named program subs (stmts (stmt line place form) ss) h f s =
-    let first = is_straight_form any (is_cell (variables program)) any form in
-    let rest = are_straight any (is_cell (variables program)) any ss in
+    let first = is_straight_form any (has_one_cell_named (variables program)) any form in
+    let rest = are_straight any (has_one_cell_named (variables program)) any ss in
     both _ _ (form-named program subs place form h (nil_left (stmt_form_faults (world_with program subs) place form) _ f) (both_left first rest s))
     (stmts-named program subs ss h (nil_right (stmt_form_faults (world_with program subs) place form) _ f) (both_right first rest s))
 
@@ -287,24 +287,24 @@ record AreDeclared (program : Program) (vs : List Sized) (ds : List Decl) (init 
 
 -- what follows a declaration's assignment
 rest-straight : (program : Program) (d : Decl) (ds : List Decl) (init : Stmts) (value : Option Expr) → d.value ≡ value
-    → are_straight any (is_cell (variables program)) any (in_front (filter_map assignment (d ∷ ds)) init) ≡ true → are_straight any (is_cell (variables program)) any (in_front (filter_map assignment ds) init) ≡ true
+    → are_straight any (has_one_cell_named (variables program)) any (in_front (filter_map assignment (d ∷ ds)) init) ≡ true → are_straight any (has_one_cell_named (variables program)) any (in_front (filter_map assignment ds) init) ≡ true
 rest-straight program d ds init None v s = rw v at s
 rest-straight program d ds init (Some e) v s =
-    let good : (is_all all && is_cell (variables program) d.name && is_sum any e && are_straight any (is_cell (variables program)) any (in_front (filter_map assignment ds) init)) ≡ true = rw v at s in
-    both_right (is_all all && is_cell (variables program) d.name && is_sum any e) (are_straight any (is_cell (variables program)) any (in_front (filter_map assignment ds) init)) good
+    let good : (is_all all && has_one_cell_named (variables program) d.name && is_sum any e && are_straight any (has_one_cell_named (variables program)) any (in_front (filter_map assignment ds) init)) ≡ true = rw v at s in
+    both_right (is_all all && has_one_cell_named (variables program) d.name && is_sum any e) (are_straight any (has_one_cell_named (variables program)) any (in_front (filter_map assignment ds) init)) good
 
 -- the assignment of a declared value
 value-named : (program : Program) (vs : List Sized) (d : Decl) (ds : List Decl) (init : Stmts) (value : Option Expr) → d.value ≡ value → EachKnown (map known vs)
     → address_of (variables program) d.name ≡ Some (0 + sum_by (λ v. v.size) vs, declared_size program.project.consts d.size)
     → value_faults (scope_of program.project.consts vs) d.equals (Some (declared_size program.project.consts d.size)) value ≡ []
     → ((name : Name) → is_value program.project.consts vs name ≡ true → is_value program.project.consts (variables program) name ≡ true)
-    → are_straight any (is_cell (variables program)) any (in_front (filter_map assignment (d ∷ ds)) init) ≡ true → are_named program (in_front (filter_map assignment ds) init) ≡ true
+    → are_straight any (has_one_cell_named (variables program)) any (in_front (filter_map assignment (d ∷ ds)) init) ≡ true → are_named program (in_front (filter_map assignment ds) init) ≡ true
     → are_named program (in_front (filter_map assignment (d ∷ ds)) init) ≡ true
 value-named program vs d ds init None v h place f more s deeper = rw v deeper
 value-named program vs d ds init (Some (expr first own_place form)) v h place f more s deeper =
     let consts = program.project.consts in
     let scope = scope_of consts vs in
-    let cells = is_cell (variables program) in
+    let cells = has_one_cell_named (variables program) in
     let rest = are_straight any cells any (in_front (filter_map assignment ds) init) in
     let good : (is_all all && cells d.name && is_sum any (expr first own_place form) && rest) ≡ true = rw v at s in
     let front = both_left (is_all all && cells d.name && is_sum any (expr first own_place form)) rest good in
@@ -340,7 +340,7 @@ known-more : (consts : List Const) (vs : List Sized) (d : Decl) (size : Option �
 known-more consts vs d size h k e = subst EachKnown (sym (map-append known vs (own consts d ∷ []))) (one_more (map known vs) (known (own consts d)) h (subst HasCells e k))
 
 declared-named : (program : Program) (vs : List Sized) (d : Decl) (ds : List Decl) (init : Stmts) → EachKnown (map known vs) → IsDeclared program vs d → AreDeclared program (vs ++ own program.project.consts d ∷ []) ds init
-    → variables program ≡ vs ++ own program.project.consts d ∷ map (own program.project.consts) ds → are_straight any (is_cell (variables program)) any (in_front (filter_map assignment (d ∷ ds)) init) ≡ true
+    → variables program ≡ vs ++ own program.project.consts d ∷ map (own program.project.consts) ds → are_straight any (has_one_cell_named (variables program)) any (in_front (filter_map assignment (d ∷ ds)) init) ≡ true
     → AreDeclared program vs (d ∷ ds) init
 declared-named program vs d ds init h is others all_are s =
     let consts = program.project.consts in
@@ -357,8 +357,8 @@ declared-named program vs d ds init h is others all_are s =
     }
 
 decls-named : (program : Program) (vs : List Sized) (ds : List Decl) (init : Stmts) → EachKnown (map known vs) → list_all is_filled (flat_map decl_exprs ds) ≡ true → decls_faults (scope_of program.project.consts vs) ds ≡ []
-    → variables program ≡ vs ++ map (own program.project.consts) ds → are_straight any (is_cell (variables program)) any (in_front (filter_map assignment ds) init) ≡ true
-    → (are_straight any (is_cell (variables program)) any init ≡ true → are_named program init ≡ true) → AreDeclared program vs ds init
+    → variables program ≡ vs ++ map (own program.project.consts) ds → are_straight any (has_one_cell_named (variables program)) any (in_front (filter_map assignment ds) init) ≡ true
+    → (are_straight any (has_one_cell_named (variables program)) any init ≡ true → are_named program init ≡ true) → AreDeclared program vs ds init
 decls-named program vs [] init h f e all_are s last = record { new = refl; no_constants = refl; named = last s }
 decls-named program vs (d ∷ ds) init h f e all_are s last =
     let consts = program.project.consts in
@@ -386,7 +386,7 @@ pub straight-of : (program : Program) → All (λ v. 1 ≤ v.size) program.proje
 straight-of program sizes tree sound built constants =
     let source = program.source in
     let scope = first_scope program.project in
-    let forms = are_straight any (is_cell (variables program)) any (init_code source) in
+    let forms = are_straight any (has_one_cell_named (variables program)) any (init_code source) in
     let node = each-sized program.project.node.variables sizes in
     let none = ((sound_is_faultless program).0 sound).0 in
     let first = nil_left _ (parts_faults (world_of program) [] source.parts) (nil_left _ (recursion_faults [] (sub_calls source.parts)) none) in

@@ -2,19 +2,16 @@
 use Rattle.std.proofs.Common.{◌≡◌, refl, sym, ◌∙◌, ap, ◌≤◌, Bool, true, false, ◌&&◌, List, [], ◌∷◌, ◌++◌, arith, Option, Some, None, length, map}
 use Rattle.std.specs.Prelude.{filter_map, Result, Ok, Err}
 use Rattle.std.specs.List.{list_all}
-use Rattle.std.proofs.lemmas.List.Folds.{list_all-map}
 use Rattle.aseba_tree.specs.declared.decl.Decl as code_decl
 use Rattle.aseba_tree.specs.declared.stmt.Stmt as code_stmt
 use Rattle.aseba_tree.specs.declared.source.Source.{Source}
-use Rattle.aseba_tree.specs.declared.source.Handler as code_handler
 use Rattle.aseba_tree.specs.declared.project.Project.{Project}
 use Rattle.aseba_tree.specs.declared.core_tree.Core.{Core}
-use Rattle.aseba_tree.specs.Code.{Name, Const, Decl, Expr, Stmts}
+use Rattle.aseba_tree.specs.Code.{Name, Decl, Expr, Stmts}
 use Rattle.aseba_tree.specs.View.{const_view, decl_view, stmt_view, stmts_of, handler_view, project_view, source_view}
 use Rattle.aseba_tree.specs.View as view
 use Rattle.aseba_tree.specs.State.{assignment, in_front, init_code}
 use Rattle.aseba_tree.specs.Layout.{variables, layout}
-use Rattle.aseba_codegen.specs.Agrees as machine
 use Rattle.aseba_check.specs.declared.checked.Checked.{Checked}
 use Rattle.aseba_check.specs.declared.checked.Placed.{Placed}
 use Rattle.aseba_check.specs.declared.counting.total.Numbers.{Numbers}
@@ -24,19 +21,14 @@ use Rattle.aseba_compile.specs.declared.refusal.Refusal.{Refusal}
 use Rattle.aseba_compile.specs.declared.refusal.Refusal.TheVariants.{NotBuilt, Mem}
 use Rattle.aseba_check.specs.Places.{placed_view}
 use Rattle.aseba_check.specs.Refused.{program_in}
-use Rattle.aseba_compile.specs.Straight.{any, is_sum, has_no_parts, has_only_built_forms, is_straight_stmt, are_straight, is_cell}
-use Rattle.aseba_compile.specs.StraightRead.{nothing, with_constants, with_places, are_cells, is_built_value, no_parts, has_built_forms_in, source_meanings, values_in, stmts_in, init_in, IsBuiltCore, IsCoreIn}
-use Rattle.aseba_compile.specs.StraightRun.{HasCellConstants}
+use Rattle.aseba_compile.specs.Straight.{any, is_sum, has_no_parts, has_only_built_forms, is_straight_stmt, are_straight, has_one_cell_named}
+use Rattle.aseba_compile.specs.StraightRead.{nothing, with_constants, with_places, is_built_value, has_built_forms_in, source_meanings, values_in, stmts_in, init_in, IsBuiltCore, IsCoreIn}
 use Rattle.aseba_compile.specs.StraightAnswer.{IsStraightAnswer}
 use Rattle.aseba_compile.proofs.StraightMeanings.{names-known, cell-same}
 use Rattle.aseba_compile.proofs.StraightShape.{IsStraight}
 use Rattle.aseba_compile.proofs.StraightSound.{straight-of}
 use Rattle.aseba_compile.proofs.StraightCompiled.{sizes-inside}
 use Rattle.aseba_compile.proofs.StraightBuilt.{source_known, core_list, init-listed, listed}
-
-parts-same : (hs : List code_handler.Handler) → no_parts hs ≡ has_no_parts (map handler_view hs)
-parts-same [] = refl
-parts-same (h ∷ hs) = refl
 
 read-known : (project : Project) (source : Source) (places : List Placed) → map placed_view places ≡ layout (program_in project source) → source_meanings project places ≡ source_known (program_in project source)
 read-known project source places e = ap (λ ps. with_places (with_constants nothing project.consts) ps) e ∙ names-known project.consts (variables (program_in project source))
@@ -66,14 +58,10 @@ read-forms : (project : Project) (source : Source) (places : List Placed) → ma
     → has_built_forms_in (source_meanings project places) source ≡ has_only_built_forms (program_in project source)
 read-forms project source places e =
     let program = program_in project source in
-    let cells = is_cell (variables program) in
+    let cells = has_one_cell_named (variables program) in
     ap (λ m. has_built_forms_in m source) (read-known project source places e)
-    ∙ ap (λ f. list_all (λ d. is_built_value f (decl_view d)) source.vars && list_all (λ s. is_straight_stmt any f any (stmt_view s)) source.init && no_parts source.parts) (cell-same program.project.consts (variables program))
-    ∙ ap (λ b. b && no_parts source.parts) (forms-same cells source.vars source.init)
-    ∙ ap (λ b. are_straight any cells any (init_code program.source) && b) (parts-same source.parts)
-
-read-constants : (project : Project) → are_cells project.consts ≡ true → HasCellConstants (project_view project)
-read-constants project e = list_all-map (λ (c : Const). machine.is_cell c.value) const_view project.consts ∙ e
+    ∙ ap (λ f. list_all (λ d. is_built_value f (decl_view d)) source.vars && list_all (λ s. is_straight_stmt any f any (stmt_view s)) source.init && has_no_parts (map handler_view source.parts)) (cell-same program.project.consts (variables program))
+    ∙ ap (λ b. b && has_no_parts (map handler_view source.parts)) (forms-same cells source.vars source.init)
 
 -- Statements
 
@@ -89,12 +77,11 @@ built : (project : Project) (checked : Checked) (numbers : Numbers) (core : Core
 built project checked numbers core is_checked counted b =
     let program = program_in project checked.source in
     let forms = sym (read-forms project checked.source checked.places is_checked.places) ∙ b.built in
-    let constants = read-constants project b.constants in
-    let is = straight-of program (sizes-inside project.node.variables is_checked.inside.node.variables.each.each) is_checked.is_tree is_checked.sound forms constants in
+    let is = straight-of program (sizes-inside project.node.variables is_checked.inside.node.variables.each.each) is_checked.is_tree is_checked.sound forms b.constants in
     let few_events : length project.events ≤ 65535 = let most = is_checked.inside.events.few in omega arith in
     let init = read-init project checked.source checked.places is_checked.places is few_events in
     let listed_is = ap view.core_stmts_of (b.init ∙ init) ∙ listed program (init_code program.source) in
-    (forms, constants, rw (listed_is, b.parts, b.cells ∙ is_checked.cells, b.room, b.size ∙ counted.size, b.depth ∙ counted.depth) refl)
+    (forms, b.constants, rw (listed_is, b.parts, b.cells ∙ is_checked.cells, b.room, b.size ∙ counted.size, b.depth ∙ counted.depth) refl)
 
 pub answered : (project : Project) (checked : Checked) (numbers : Numbers) (r : Result Core Refusal) → IsChecked project checked → AreNumbers (program_in project checked.source) numbers → IsCoreIn project checked numbers r
     → IsStraightAnswer (program_in project checked.source) r

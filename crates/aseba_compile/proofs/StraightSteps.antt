@@ -15,7 +15,7 @@ use Rattle.aseba_tree.specs.Layout.{variables, cells_of_variables}
 use Rattle.aseba_tree.specs.Elements.{element_of}
 use Rattle.aseba_tree.proofs.Steps.{applied-none_held}
 use Rattle.aseba_tree.proofs.SizeLaws.{both_left, both_right}
-use Rattle.aseba_compile.specs.Straight.{is_cell, is_sum_form, is_all, is_straight_form, event_place, core_stmts_of, straight_program}
+use Rattle.aseba_compile.specs.Straight.{has_one_cell_named, is_sum_form, is_all, is_straight_form, event_place, core_stmts_of, straight_program}
 use Rattle.aseba_compile.specs.Standing.{all_cells_of}
 use Rattle.aseba_compile.proofs.StraightCells.{Laid, put-flat, laid-put, held-put, held-set}
 use Rattle.aseba_compile.proofs.StraightShape.{all_part, is_value, has_event, are_named}
@@ -160,7 +160,7 @@ emitted-alike program cells bits core_bits line place name ss h k e =
 
 -- a statement form that names what there is
 abbrev is_named : Program → StmtForm → Bool
-is_named program form = is_straight_form (has_event program.project) (is_cell (variables program)) (is_value program.project.consts (variables program)) form
+is_named program form = is_straight_form (has_event program.project) (has_one_cell_named (variables program)) (is_value program.project.consts (variables program)) form
 
 first-alike : (program : Program) (cells : Cells) (bits core_bits : List Bool) (line : ℕ) (place : Place) (form : StmtForm) (ss : Stmts) → Laid cells (variables program) → are_named program ss ≡ true → is_named program form ≡ true
     → SteppedAlike program (step program (going cells bits (stmts (stmt line place form) ss)))
@@ -168,11 +168,11 @@ first-alike : (program : Program) (cells : Cells) (bits core_bits : List Bool) (
 first-alike program cells bits core_bits line place (assign target (expr first own form)) ss h k e =
     let ds = variables program in
     let names = is_value program.project.consts ds in
-    let front = both_left (is_all target.part && is_cell ds target.name) (is_sum_form names form) e in
-    let cell = cell_place (address_of ds target.name) (both_right (is_all target.part) (is_cell ds target.name) front) in
+    let front = both_left (is_all target.part && has_one_cell_named ds target.name) (is_sum_form names form) e in
+    let cell = cell_place (address_of ds target.name) (both_right (is_all target.part) (has_one_cell_named ds target.name) front) in
     assigned-alike program cells bits core_bits line place target.place target.name target.part first own form ss cell.0 h k
-    (all_part target.part (both_left (is_all target.part) (is_cell ds target.name) front)) cell.1
-    (sum-valued program cells form h (both_right (is_all target.part && is_cell ds target.name) (is_sum_form names form) e))
+    (all_part target.part (both_left (is_all target.part) (has_one_cell_named ds target.name) front)) cell.1
+    (sum-valued program cells form h (both_right (is_all target.part && has_one_cell_named ds target.name) (is_sum_form names form) e))
 first-alike program cells bits core_bits line place (emit name None) ss h k e = emitted-alike program cells bits core_bits line place name ss h k e
 first-alike program cells bits core_bits line place (emit name (Some i)) ss h k e = cc
 first-alike program cells bits core_bits line place (change target op i) ss h k e = cc

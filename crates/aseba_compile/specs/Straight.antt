@@ -10,7 +10,7 @@ use Rattle.aseba_tree.specs.Core.{CoreStmt, core_stmt, CoreForm, store, send, go
 use Rattle.aseba_tree.specs.CoreStep.{CoreProgram, address_of}
 use Rattle.aseba_tree.specs.Elements.{variable_place, element_of}
 use Rattle.aseba_tree.specs.Numbers.{source_words, source_depth}
-use Rattle.aseba_codegen.specs.Agrees as machine
+use Rattle.aseba_codegen.specs.Agrees.{is_cell}
 
 -- Names and numbers
 
@@ -19,8 +19,8 @@ has_one_cell None = false
 has_one_cell (Some v) = nat_eq v.1 1
 
 -- the first of these variables of a name has one cell
-abbrev pub is_cell : List Sized → Name → Bool
-is_cell known name = has_one_cell (address_of known name)
+abbrev pub has_one_cell_named : List Sized → Name → Bool
+has_one_cell_named known name = has_one_cell (address_of known name)
 
 -- each name
 abbrev pub any : Name → Bool
@@ -39,7 +39,7 @@ abbrev mutual
   is_sum names (expr first place form) = is_sum_form names form
 
   pub is_sum_form : (Name → Bool) → Form → Bool
-  is_sum_form names (number v) = machine.is_cell v
+  is_sum_form names (number v) = is_cell v
   is_sum_form names (whole name) = names name
   is_sum_form names (two op l r) = adds op && is_sum names l && is_sum names r
   is_sum_form names _ = false
@@ -70,7 +70,7 @@ has_no_parts (h ∷ hs) = false
 -- A source has no parts, and assigns, in its declarations and its statements, only sums to whole variables of one cell, and sends only events without an
 -- argument. Which names it may use isn't asked here.
 abbrev pub has_only_built_forms : Program → Bool
-has_only_built_forms program = are_straight any (is_cell (variables program)) any (init_code program.source) && has_no_parts program.source.parts
+has_only_built_forms program = are_straight any (has_one_cell_named (variables program)) any (init_code program.source) && has_no_parts program.source.parts
 
 -- The core
 

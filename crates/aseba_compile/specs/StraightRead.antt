@@ -9,13 +9,11 @@ use Rattle.aseba_tree.specs.declared.decl.Decl.{Decl}
 use Rattle.aseba_tree.specs.Code as tree
 use Rattle.aseba_tree.specs.Code.{Name}
 use Rattle.aseba_tree.specs.Layout as layouts
-use Rattle.aseba_tree.specs.View.{decl_view, stmt_view, core_stmt_view}
+use Rattle.aseba_tree.specs.View.{decl_view, stmt_view, handler_view, core_stmt_view, project_view}
 use Rattle.aseba_tree.specs.Core.{CoreExpr, fixed, cell, infix_of, into, CoreForm, store, send, go_back, CoreStmt, core_stmt}
-use Rattle.aseba_tree.specs.declared.source.Handler.{Handler}
 use Rattle.aseba_tree.specs.declared.source.Source.{Source}
 use Rattle.aseba_tree.specs.declared.project.Project.{Project}
 use Rattle.aseba_tree.specs.declared.core_tree.Core.{Core}
-use Rattle.aseba_codegen.specs.Agrees.{is_cell}
 use Rattle.aseba_check.specs.declared.checked.Checked.{Checked}
 use Rattle.aseba_check.specs.declared.checked.Placed.{Placed}
 use Rattle.aseba_check.specs.declared.counting.total.Numbers.{Numbers}
@@ -25,7 +23,8 @@ use Rattle.aseba_compile.specs.declared.straight.names.Names.{Names}
 use Rattle.aseba_compile.specs.declared.straight.names.Meaning.{Meaning}
 use Rattle.aseba_compile.specs.declared.straight.names.Meaning.TheVariants.{Variable, Constant}
 use Rattle.aseba_check.specs.Places.{placed_view}
-use Rattle.aseba_compile.specs.Straight.{any, is_sum, is_straight_stmt}
+use Rattle.aseba_compile.specs.Straight.{any, has_no_parts, is_sum, is_straight_stmt}
+use Rattle.aseba_compile.specs.StraightRun.{HasCellConstants}
 
 -- Names
 
@@ -61,10 +60,6 @@ with_place meanings p = unless_variable meanings (with_meaning meanings p.name (
 abbrev pub with_places : Meanings → List layouts.Placed → Meanings
 with_places meanings [] = meanings
 with_places meanings (p ∷ ps) = with_places (with_place meanings p) ps
-
--- the numbers of constants are those that cells hold
-abbrev pub are_cells : List Const → Bool
-are_cells consts = list_all (λ c. is_cell c.value) consts
 
 abbrev pub is_one_cell : Option Meaning → Bool
 is_one_cell (Some (Variable address size)) = nat_eq size 1
@@ -107,12 +102,8 @@ are_built_values meanings ds = list_all (λ d. is_built_value (has_cell meanings
 abbrev pub are_built_stmts : Meanings → List Stmt → Bool
 are_built_stmts meanings ss = list_all (λ s. is_straight_stmt any (has_cell meanings) any (stmt_view s)) ss
 
-abbrev pub no_parts : List Handler → Bool
-no_parts [] = true
-no_parts (h ∷ hs) = false
-
 abbrev pub has_built_forms_in : Meanings → Source → Bool
-has_built_forms_in meanings source = are_built_values meanings source.vars && are_built_stmts meanings source.init && no_parts source.parts
+has_built_forms_in meanings source = are_built_values meanings source.vars && are_built_stmts meanings source.init && has_no_parts (map handler_view source.parts)
 
 -- Cores
 
@@ -169,7 +160,7 @@ init_in meanings project source = values_in meanings source.vars ++ stmts_in pro
 -- the core that is made of a checked source that has these numbers
 pub record IsBuiltCore (project : Project) (checked : Checked) (numbers : Numbers) (core : Core) : Type 0 where
   pub built : has_built_forms_in (source_meanings project checked.places) checked.source ≡ true
-  pub constants : are_cells project.consts ≡ true
+  pub constants : HasCellConstants (project_view project)
   pub init : map core_stmt_view core.init ≡ init_in (source_meanings project checked.places) project checked.source
   pub parts : core.parts ≡ []
   pub cells : core.cells ≡ checked.cells

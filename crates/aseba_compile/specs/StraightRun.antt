@@ -1,23 +1,26 @@
 -- What is asked of a straight source, and how the run of its words stands to its meaning.
-use Rattle.std.specs.Prelude.{◌≡◌, ℕ, ◌≤◌, true, IsTrue, List, [], map, slice_index}
+use Rattle.std.specs.Prelude.{◌≡◌, ℕ, ◌≤◌, Bool, true, IsTrue, List, [], map, slice_index}
 use Rattle.std.specs.List.{list_all}
-use Rattle.aseba_tree.specs.Code.{Project}
+use Rattle.aseba_tree.specs.Code.{Const, Project}
 use Rattle.aseba_tree.specs.State.{Program}
 use Rattle.aseba_tree.specs.Shape.{IsTree}
 use Rattle.aseba_tree.specs.Soundness.{Sound}
 use Rattle.aseba_tree.specs.Line.{line_by}
 use Rattle.aseba_tree.specs.Numbers.{source_words, source_depth, source_weight}
 use Rattle.aseba_tree.specs.Lines.{run_of, lines_of, Paced}
-use Rattle.aseba_codegen.specs.Agrees as machine
-use Rattle.aseba_codegen.specs.Agrees.{IsNode, HasNoError}
+use Rattle.aseba_codegen.specs.Agrees.{is_cell, IsNode, HasNoError}
 use Rattle.aseba_codegen.specs.Table.{layout_of, all_ticking, beginning, started, table_lines, table_beats}
 use Rattle.aseba_codegen.specs.Words.{code_words, code_lines}
 use Rattle.aseba_compile.specs.Standing.{MatchesSource}
 use Rattle.aseba_compile.specs.Straight.{has_only_built_forms, straight_core}
 
--- each constant is a number that a cell holds
+-- the numbers of constants are those that cells hold
+abbrev pub are_cells : List Const → Bool
+are_cells consts = list_all (λ c. is_cell c.value) consts
+
+-- so it is with all constants of a project
 abbrev pub HasCellConstants : Project → Type 0
-HasCellConstants project = IsTrue (list_all (λ c. machine.is_cell c.value) project.consts)
+HasCellConstants project = IsTrue (are_cells project.consts)
 
 -- A sound source that has only built forms, for which its node has words and stack. That it has cells is part of its soundness.
 pub record Fits (program : Program) : Type 0 where

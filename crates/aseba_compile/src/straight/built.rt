@@ -1,10 +1,12 @@
 ghost use Rattle.std.specs.Prelude.{◌≡◌, true, map, IfOk, MatchResult};
-ghost use Rattle.aseba_tree.specs.View.{core_stmt_view};
+ghost use Rattle.aseba_tree.specs.View.{core_stmt_view, handler_view, project_view};
 ghost use Rattle.aseba_check.specs.Accepted.{IsChecked};
 ghost use Rattle.aseba_check.specs.CountedNumbers.{AreNumbers};
 ghost use Rattle.aseba_check.specs.Refused.{program_in};
+ghost use Rattle.aseba_compile.specs.Straight.{has_no_parts};
 ghost use Rattle.aseba_compile.specs.StraightAnswer.{IsStraightAnswer};
-ghost use Rattle.aseba_compile.specs.StraightRead.{are_cells, has_built_forms_in, init_in, IsCoreIn, looked, no_parts, source_meanings};
+ghost use Rattle.aseba_compile.specs.StraightRead.{has_built_forms_in, init_in, IsCoreIn, looked, source_meanings};
+ghost use Rattle.aseba_compile.specs.StraightRun.{HasCellConstants};
 
 use crate::refusal::Refusal;
 use crate::straight::elements::{add_stmts, add_values};
@@ -18,7 +20,7 @@ use std::alloc::Global;
 /// What the names of a source mean, by the constants and the places of all variables.
 fn names_of(alloc: Global, project: &Project, places: &[Placed]) -> Result<Names, Mem>
     ensures names { IfOk result (λ names. looked names ≡ source_meanings project.now places.now) }
-    ensures cells { IfOk result (λ names. are_cells project.now.consts ≡ true) }
+    ensures cells { IfOk result (λ names. HasCellConstants (project_view project.now)) }
 {
     let mut names = Names::new(alloc);
     add_constants(alloc, &mut names, project.consts.as_slice())?;
@@ -27,7 +29,7 @@ fn names_of(alloc: Global, project: &Project, places: &[Placed]) -> Result<Names
 }
 
 fn has_no_parts(parts: &[Handler]) -> bool
-    ensures { result ≡ no_parts parts.now }
+    ensures { result ≡ has_no_parts (map handler_view parts.now) }
 {
     match parts {
         [] => true,
@@ -85,7 +87,7 @@ fn core_in(
 }
 
 /// The core of a checked source that has these numbers, where all its forms are compiled.
-pub fn straight(
+pub fn straight_core(
     alloc: Global,
     project: &Project,
     checked: &Checked,

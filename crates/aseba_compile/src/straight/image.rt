@@ -4,7 +4,7 @@ ghost use Rattle.aseba_check.specs.Refused.{program_in};
 ghost use Rattle.aseba_compile.specs.StraightWords.{IsImageOf};
 
 use crate::refusal::Refusal;
-use crate::straight::built::straight;
+use crate::straight::built::straight_core;
 use aseba_check::{Checked, Numbers};
 use aseba_codegen::{Image, generate};
 use aseba_tree::Project;
@@ -23,7 +23,7 @@ pub fn straight_image(
 {
     // That it is a word is known where it is read.
     let _id = project.id;
-    let core = straight(alloc, project, checked, numbers)?;
+    let core = straight_core(alloc, project, checked, numbers)?;
     let image = generate(alloc, &core, project)?;
     Ok(image)
 }

@@ -1,8 +1,9 @@
 ghost use Rattle.std.specs.Prelude.{◌≡◌, true, map, OnOk};
-ghost use Rattle.aseba_tree.specs.View.{core_expr_view};
+ghost use Rattle.aseba_tree.specs.View.{const_view, core_expr_view};
 ghost use Rattle.aseba_codegen.specs.Agrees.{is_cell};
 ghost use Rattle.aseba_check.specs.Places.{placed_view};
-ghost use Rattle.aseba_compile.specs.StraightRead.{looked, nothing, with_meaning, with_constant, with_constants, with_place, with_places, are_cells, has_cell, address_in, element_named};
+ghost use Rattle.aseba_compile.specs.StraightRead.{looked, nothing, with_meaning, with_constant, with_constants, with_place, with_places, has_cell, address_in, element_named};
+ghost use Rattle.aseba_compile.specs.StraightRun.{are_cells};
 
 use aseba_check::Placed;
 use aseba_tree::{Const, CoreExpr};
@@ -111,7 +112,7 @@ impl Names {
 /// Makes constants known.
 pub fn add_constants(alloc: Global, names: &mut Names, consts: &[Const]) -> Result<(), Mem>
     ensures names { OnOk result (looked names.new ≡ with_constants (looked names.old) consts.now) }
-    ensures cells { OnOk result (are_cells consts.now ≡ true) }
+    ensures cells { OnOk result (are_cells (map const_view consts.now) ≡ true) }
 {
     for constant in consts {
         names.add_constant(alloc, constant)?;

@@ -1,5 +1,7 @@
-use Rattle.std.proofs.Common.{◌+◌, sym, ◌∙◌, ap, drop, ◌&&◌}
-use Rattle.aseba_compile.specs.StraightRead.{looked, with_constants, are_cells}
+use Rattle.std.proofs.Common.{◌+◌, sym, ◌∙◌, ap, drop, map, ◌&&◌}
+use Rattle.aseba_tree.specs.View.{const_view}
+use Rattle.aseba_compile.specs.StraightRead.{looked, with_constants}
+use Rattle.aseba_compile.specs.StraightRun.{are_cells}
 use Rattle.aseba_compile.proofs.StraightLists.{next_item}
 use Rattle.aseba_compile.proofs.straight.names.add_constants.Goals as goal
 
@@ -9,5 +11,5 @@ loop-constant-preserved c =
     let here = next_item c.args.consts.now c.loop-constant.constant-index c.constant-item.result c.loop-constant-test.true c.constant-item.is in
     record {
       names = ap (λ m. with_constants m rest) c.in_ok-add_constant.ensures.names ∙ ap (with_constants (looked c.loop-constant.names)) (sym here) ∙ c.loop-constant.invariant.names;
-      cells = ap (λ b. b && are_cells rest) (sym c.in_ok-add_constant.ensures.cell) ∙ ap are_cells (sym here) ∙ c.loop-constant.invariant.cells;
+      cells = ap (λ b. b && are_cells (map const_view rest)) (sym c.in_ok-add_constant.ensures.cell) ∙ ap (λ consts. are_cells (map const_view consts)) (sym here) ∙ c.loop-constant.invariant.cells;
     }
