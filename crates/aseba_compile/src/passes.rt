@@ -51,7 +51,7 @@ fn compile_checked(alloc: Global, project: &Project, checked: Checked) -> Result
     Ok(Program { image, places })
 }
 
-/// Words have 16 bits: it is known where they are seen as such.
+/// Reads words so that the proof knows that each has the range of its type.
 fn are_words(words: &[u16])
     ensures { All (λ word. word < 65536) words.now }
 {

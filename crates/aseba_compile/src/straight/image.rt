@@ -21,7 +21,7 @@ pub fn straight_image(
     requires numbers { AreNumbers (program_in project.now checked.now.source) numbers }
     ensures { IsImageOf (program_in project.now checked.now.source) result }
 {
-    // That it is a word is known where it is read.
+    // Read so that the proof knows that it has the range of its type.
     let _id = project.id;
     let core = straight_core(alloc, project, checked, numbers)?;
     let image = generate(alloc, &core, project)?;

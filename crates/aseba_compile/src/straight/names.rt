@@ -87,6 +87,7 @@ impl Names {
         ensures names { OnOk result (looked self.new ≡ with_constant (looked self.old) constant.now) }
         ensures cell { is_cell constant.now.value ≡ true }
     {
+        // Read in each case, so that the proof knows that it has the range of its type.
         let value = constant.value;
         match self.find(&constant.name) {
             Some(_) => Ok(()),

@@ -17,7 +17,7 @@ pub fn is_sum(expr: &Expr) -> bool
 {
     match &expr.form {
         Form::Number(value) => {
-            // That a cell holds it is known where it is read.
+            // Read so that the proof knows that it has the range of its type.
             let _value = *value;
             true
         }
