@@ -4,6 +4,7 @@ pub mod StraightBuilt
 pub mod StraightCells
 pub mod StraightCompiled
 pub mod StraightCore
+pub mod StraightEvents
 pub mod StraightHeadline
 pub mod StraightLists
 pub mod StraightLoad

@@ -17,7 +17,7 @@ use Rattle.aseba_tree.specs.Layout.{variables}
 use Rattle.aseba_tree.specs.Elements.{variable_place, elements_of_form, element_of}
 use Rattle.aseba_tree.proofs.SizeLaws.{both_left, both_right}
 use Rattle.aseba_compile.specs.Straight.{has_one_cell_named, adds, is_sum, is_sum_form, is_all, is_straight_form, address, event_place, core_form_of, core_stmt_of, core_stmts_of}
-use Rattle.aseba_compile.specs.StraightRead.{Meanings, address_in, element_in, form_element, number_in, low, core_form_in, core_stmt_in, value_in, values_in, stmts_in}
+use Rattle.aseba_compile.specs.StraightRead.{Meanings, address_in, element_in, form_element, number_in, low, core_form_in, core_stmt_in, value_in, values_in, stmts_in, places_of}
 use Rattle.aseba_compile.proofs.StraightCore.{event-inside}
 use Rattle.aseba_compile.proofs.StraightMeanings.{meanings_of}
 use Rattle.aseba_compile.proofs.StraightShape.{constant_named, has_value, is_value, has_event, are_named}
@@ -60,7 +60,7 @@ place-view : (events : List code.Sized) (name : Name) → position_or_len (λ ev
 place-view [] name = refl
 place-view (v ∷ vs) name = ap (λ n. cond (not (bytes_eq v.name name)) (1 + n) 0) (place-view vs name)
 
-number-same : (project : Project) (events : List code.Sized) (name : Name) → project.events ≡ map sized_view events → length events ≤ 65535 → has_event project name ≡ true → number_in events name ≡ event_place project name
+number-same : (project : Project) (events : List code.Sized) (name : Name) → project.events ≡ map sized_view events → length events ≤ 65535 → has_event project name ≡ true → number_in (places_of events) name ≡ event_place project name
 number-same project events name e few signal =
     let place = position_or_len (λ (event : code.Sized). bytes_eq event.name name) events in
     let same : event_place project name ≡ place = ap (position_or_len (λ event. bytes_eq event.name name)) e ∙ place-view events name in
@@ -79,7 +79,7 @@ abbrev is_named : Program → StmtForm → Bool
 is_named program form = is_straight_form (has_event program.project) (has_one_cell_named (variables program)) (is_value program.project.consts (variables program)) form
 
 form-same : (program : Program) (events : List code.Sized) (form : StmtForm) → program.project.events ≡ map sized_view events → length events ≤ 65535 → is_named program form ≡ true
-    → core_form_in events (source_known program) form ≡ core_form_of program form
+    → core_form_in (places_of events) (source_known program) form ≡ core_form_of program form
 form-same program events (assign target e) q few_events h =
     let cells = has_one_cell_named (variables program) in
     let names = is_value program.project.consts (variables program) in
@@ -103,19 +103,19 @@ core_list program no_stmts = []
 core_list program (stmts s ss) = core_stmt_of program s ∷ core_list program ss
 
 stmt-same : (program : Program) (events : List code.Sized) (line : ℕ) (place : Place) (form : StmtForm) → program.project.events ≡ map sized_view events → length events ≤ 65535 → is_named program form ≡ true
-    → core_stmt_in events (source_known program) (stmt line place form) ≡ core_stmt_of program (stmt line place form)
+    → core_stmt_in (places_of events) (source_known program) (stmt line place form) ≡ core_stmt_of program (stmt line place form)
 stmt-same program events line place form q few_events h = ap (core_stmt line) (form-same program events form q few_events h)
 
 listed-behind : (program : Program) (events : List code.Sized) (s : Stmt) (ss : Stmts) (rest : List CoreStmt) → program.project.events ≡ map sized_view events → length events ≤ 65535 → are_named program (stmts s ss) ≡ true
-    → (are_named program ss ≡ true → rest ≡ core_list program ss) → core_stmt_in events (source_known program) s ∷ rest ≡ core_list program (stmts s ss)
+    → (are_named program ss ≡ true → rest ≡ core_list program ss) → core_stmt_in (places_of events) (source_known program) s ∷ rest ≡ core_list program (stmts s ss)
 listed-behind program events (stmt line place form) ss rest q few_events h deeper =
     rw (stmt-same program events line place form q few_events (both_left (is_named program form) (are_named program ss) h), deeper (both_right (is_named program form) (are_named program ss) h)) refl
 
 stmts-listed : (program : Program) (events : List code.Sized) (ss : List code_stmt.Stmt) → program.project.events ≡ map sized_view events → length events ≤ 65535 → are_named program (stmts_of (map stmt_view ss)) ≡ true
-    → stmts_in events (source_known program) ss ≡ core_list program (stmts_of (map stmt_view ss))
+    → stmts_in (places_of events) (source_known program) ss ≡ core_list program (stmts_of (map stmt_view ss))
 stmts-listed program events [] q few_events h = refl
 stmts-listed program events (s ∷ ss) q few_events h =
-    listed-behind program events (stmt_view s) (stmts_of (map stmt_view ss)) (stmts_in events (source_known program) ss) q few_events h (λ good. stmts-listed program events ss q few_events good)
+    listed-behind program events (stmt_view s) (stmts_of (map stmt_view ss)) (stmts_in (places_of events) (source_known program) ss) q few_events h (λ good. stmts-listed program events ss q few_events good)
 
 value-listed : (program : Program) (d : Decl) (ds : List Decl) (init : Stmts) (value : Option Expr) (rest : List CoreStmt) → d.value ≡ value → are_named program (in_front (filter_map assignment (d ∷ ds)) init) ≡ true
     → (are_named program (in_front (filter_map assignment ds) init) ≡ true → rest ≡ core_list program (in_front (filter_map assignment ds) init))
@@ -133,11 +133,11 @@ value-listed program d ds init (Some e) rest v h deeper =
 
 pub init-listed : (program : Program) (events : List code.Sized) (ds : List code_decl.Decl) (ss : List code_stmt.Stmt) → program.project.events ≡ map sized_view events → length events ≤ 65535
     → are_named program (in_front (filter_map assignment (map decl_view ds)) (stmts_of (map stmt_view ss))) ≡ true
-    → values_in (source_known program) ds ++ stmts_in events (source_known program) ss ≡ core_list program (in_front (filter_map assignment (map decl_view ds)) (stmts_of (map stmt_view ss)))
+    → values_in (source_known program) ds ++ stmts_in (places_of events) (source_known program) ss ≡ core_list program (in_front (filter_map assignment (map decl_view ds)) (stmts_of (map stmt_view ss)))
 init-listed program events [] ss q few_events h = stmts-listed program events ss q few_events h
 init-listed program events (d ∷ ds) ss q few_events h =
-    append_assoc (value_in (source_known program) (decl_view d)) (values_in (source_known program) ds) (stmts_in events (source_known program) ss)
-    ∙ value-listed program (decl_view d) (map decl_view ds) (stmts_of (map stmt_view ss)) (decl_view d).value (values_in (source_known program) ds ++ stmts_in events (source_known program) ss) refl h
+    append_assoc (value_in (source_known program) (decl_view d)) (values_in (source_known program) ds) (stmts_in (places_of events) (source_known program) ss)
+    ∙ value-listed program (decl_view d) (map decl_view ds) (stmts_of (map stmt_view ss)) (decl_view d).value (values_in (source_known program) ds ++ stmts_in (places_of events) (source_known program) ss) refl h
     (λ good. init-listed program events ds ss q few_events good)
 
 pub listed : (program : Program) (ss : Stmts) → view.core_stmts_of (core_list program ss) ≡ core_stmts_of program ss

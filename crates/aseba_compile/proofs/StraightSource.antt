@@ -22,7 +22,7 @@ use Rattle.aseba_compile.specs.declared.refusal.Refusal.TheVariants.{NotBuilt, M
 use Rattle.aseba_check.specs.Places.{placed_view}
 use Rattle.aseba_check.specs.Refused.{program_in}
 use Rattle.aseba_compile.specs.Straight.{any, is_sum, has_no_parts, has_only_built_forms, is_straight_stmt, are_straight, has_one_cell_named}
-use Rattle.aseba_compile.specs.StraightRead.{nothing, with_constants, with_places, is_built_value, has_built_forms_in, source_meanings, values_in, stmts_in, init_in, IsBuiltCore, IsCoreIn}
+use Rattle.aseba_compile.specs.StraightRead.{nothing, with_constants, with_places, is_built_value, has_built_forms_in, source_meanings, values_in, stmts_in, places_of, init_in, IsBuiltCore, IsCoreIn}
 use Rattle.aseba_compile.specs.StraightAnswer.{IsStraightAnswer}
 use Rattle.aseba_compile.proofs.StraightMeanings.{names-known, cell-same}
 use Rattle.aseba_compile.proofs.StraightShape.{IsStraight}
@@ -69,7 +69,7 @@ read-init : (project : Project) (source : Source) (places : List Placed) → map
     → init_in (source_meanings project places) project source ≡ core_list (program_in project source) (init_code (source_view source))
 read-init project source places e is few_events =
     let program = program_in project source in
-    ap (λ m. values_in m source.vars ++ stmts_in project.events m source.init) (read-known project source places e)
+    ap (λ m. values_in m source.vars ++ stmts_in (places_of project.events) m source.init) (read-known project source places e)
     ∙ init-listed program project.events source.vars source.init refl few_events is.init
 
 built : (project : Project) (checked : Checked) (numbers : Numbers) (core : Core) → IsChecked project checked → AreNumbers (program_in project checked.source) numbers → IsBuiltCore project checked numbers core

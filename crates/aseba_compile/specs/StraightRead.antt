@@ -19,6 +19,7 @@ use Rattle.aseba_check.specs.declared.checked.Placed.{Placed}
 use Rattle.aseba_check.specs.declared.counting.total.Numbers.{Numbers}
 use Rattle.aseba_compile.specs.declared.refusal.Refusal.{Refusal}
 use Rattle.aseba_compile.specs.declared.refusal.Refusal.TheVariants.{NotBuilt, Mem}
+use Rattle.aseba_compile.specs.declared.straight.events.Events.{Events}
 use Rattle.aseba_compile.specs.declared.straight.names.Names.{Names}
 use Rattle.aseba_compile.specs.declared.straight.names.Meaning.{Meaning}
 use Rattle.aseba_compile.specs.declared.straight.names.Meaning.TheVariants.{Variable, Constant}
@@ -105,15 +106,38 @@ are_built_stmts meanings ss = list_all (λ s. is_straight_stmt any (has_cell mea
 abbrev pub has_built_forms_in : Meanings → Source → Bool
 has_built_forms_in meanings source = are_built_values meanings source.vars && are_built_stmts meanings source.init && has_no_parts (map handler_view source.parts)
 
--- Cores
+-- Events
+
+abbrev pub Places : Type 0
+Places = Name → Option ℕ
+
+abbrev pub placed : Events → Places
+placed events name = get bytes_eq events.places name
+
+abbrev pub no_place : Places
+no_place name = None
+
+-- the places with another one for a name
+abbrev pub with_event_at : Places → Name → ℕ → Places
+with_event_at places name place other = cond (bytes_eq name other) (Some place) (places other)
+
+-- with an event, unless its name has a place
+abbrev pub with_event : Places → Sized → ℕ → Places
+with_event places event place = cond (is_none (places event.name)) (with_event_at places event.name place) places
+
+-- the place of the first event of each name
+abbrev pub places_of : List Sized → Places
+places_of events name = position (λ event. bytes_eq event.name name) events
 
 abbrev pub low : Option ℕ → ℕ
 low None = 0
 low (Some n) = if nat_lt n 65536 then n else 0
 
 -- the number of an event
-abbrev pub number_in : List Sized → Name → ℕ
-number_in events name = low (position (λ event. bytes_eq event.name name) events)
+abbrev pub number_in : Places → Name → ℕ
+number_in places name = low (places name)
+
+-- Cores
 
 abbrev mutual
   pub element_in : Meanings → tree.Expr → CoreExpr
@@ -128,13 +152,13 @@ abbrev mutual
 abbrev pub store_in : Meanings → Name → tree.Expr → CoreForm
 store_in meanings name e = store (into (address_in meanings name)) (element_in meanings e)
 
-abbrev pub core_form_in : List Sized → Meanings → tree.StmtForm → CoreForm
-core_form_in events meanings (tree.assign target e) = store_in meanings target.name e
-core_form_in events meanings (tree.emit name argument) = send (number_in events name) 0 0
-core_form_in events meanings _ = go_back
+abbrev pub core_form_in : Places → Meanings → tree.StmtForm → CoreForm
+core_form_in places meanings (tree.assign target e) = store_in meanings target.name e
+core_form_in places meanings (tree.emit name argument) = send (number_in places name) 0 0
+core_form_in places meanings _ = go_back
 
-abbrev pub core_stmt_in : List Sized → Meanings → tree.Stmt → CoreStmt
-core_stmt_in events meanings (tree.stmt line place form) = core_stmt line (core_form_in events meanings form)
+abbrev pub core_stmt_in : Places → Meanings → tree.Stmt → CoreStmt
+core_stmt_in places meanings (tree.stmt line place form) = core_stmt line (core_form_in places meanings form)
 
 abbrev pub value_in : Meanings → tree.Decl → List CoreStmt
 value_in meanings d = option_to_list (option_map (λ e. core_stmt d.line (store_in meanings d.name e)) d.value)
@@ -144,9 +168,9 @@ abbrev pub values_in : Meanings → List Decl → List CoreStmt
 values_in meanings [] = []
 values_in meanings (d ∷ ds) = value_in meanings (decl_view d) ++ values_in meanings ds
 
-abbrev pub stmts_in : List Sized → Meanings → List Stmt → List CoreStmt
-stmts_in events meanings [] = []
-stmts_in events meanings (s ∷ ss) = core_stmt_in events meanings (stmt_view s) ∷ stmts_in events meanings ss
+abbrev pub stmts_in : Places → Meanings → List Stmt → List CoreStmt
+stmts_in places meanings [] = []
+stmts_in places meanings (s ∷ ss) = core_stmt_in places meanings (stmt_view s) ∷ stmts_in places meanings ss
 
 -- Sources
 
@@ -155,7 +179,7 @@ abbrev pub source_meanings : Project → List Placed → Meanings
 source_meanings project places = with_places (with_constants nothing project.consts) (map placed_view places)
 
 abbrev pub init_in : Meanings → Project → Source → List CoreStmt
-init_in meanings project source = values_in meanings source.vars ++ stmts_in project.events meanings source.init
+init_in meanings project source = values_in meanings source.vars ++ stmts_in (places_of project.events) meanings source.init
 
 -- the core that is made of a checked source that has these numbers
 pub record IsBuiltCore (project : Project) (checked : Checked) (numbers : Numbers) (core : Core) : Type 0 where

@@ -3,6 +3,7 @@
 
 mod built;
 mod elements;
+mod events;
 mod image;
 mod names;
 mod statements;

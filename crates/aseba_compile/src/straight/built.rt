@@ -10,6 +10,7 @@ ghost use Rattle.aseba_compile.specs.StraightRun.{HasCellConstants};
 
 use crate::refusal::Refusal;
 use crate::straight::elements::{add_stmts, add_values};
+use crate::straight::events::events_in;
 use crate::straight::names::{Names, add_constants, add_places};
 use crate::straight::statements::{are_built_stmts, are_built_values};
 use aseba_check::{Checked, Numbers, Placed};
@@ -57,8 +58,8 @@ fn init_of(
 {
     let mut init = List::new(alloc);
     add_values(alloc, names, source.vars.as_slice(), &mut init)?;
-    let events = project.events.as_slice();
-    add_stmts(alloc, events, names, source.init.as_slice(), &mut init)?;
+    let events = events_in(alloc, project.events.as_slice())?;
+    add_stmts(alloc, &events, names, source.init.as_slice(), &mut init)?;
     Ok(init)
 }
 

@@ -1,12 +1,10 @@
 ghost use Rattle.std.specs.Prelude.{◌≡◌, [], ◌∷◌, ◌++◌, map, IfOk, OnOk};
 ghost use Rattle.aseba_tree.specs.View.{core_expr_view, core_form_view, core_stmt_view, decl_view, expr_view, stmt_form_view, stmt_view};
-ghost use Rattle.aseba_compile.specs.StraightRead.{core_form_in, core_stmt_in, element_in, looked, store_in, stmts_in, value_in, values_in};
+ghost use Rattle.aseba_compile.specs.StraightRead.{core_form_in, core_stmt_in, element_in, looked, placed, store_in, stmts_in, value_in, values_in};
 
+use crate::straight::events::Events;
 use crate::straight::names::Names;
-use crate::straight::statements::event_number;
-use aseba_tree::{
-    CoreExpr, CoreForm, CoreStmt, CoreTarget, Decl, Expr, Form, Sized, Stmt, StmtForm,
-};
+use aseba_tree::{CoreExpr, CoreForm, CoreStmt, CoreTarget, Decl, Expr, Form, Stmt, StmtForm};
 use aseba_words::{List, Mem, Name};
 use sqlite_items::Boxed;
 use std::alloc::Global;
@@ -41,15 +39,15 @@ fn store(alloc: Global, names: &Names, name: &Name, value: &Expr) -> Result<Core
 
 fn core_form(
     alloc: Global,
-    events: &[Sized],
+    events: &Events,
     names: &Names,
     form: &StmtForm,
 ) -> Result<CoreForm, Mem>
-    ensures { IfOk result (λ core. core_form_view core ≡ core_form_in events.now (looked names.now) (stmt_form_view form.now)) }
+    ensures { IfOk result (λ core. core_form_view core ≡ core_form_in (placed events.now) (looked names.now) (stmt_form_view form.now)) }
 {
     match form {
         StmtForm::Set(target, value) => store(alloc, names, &target.get().name, value.get()),
-        StmtForm::Emit(name, _) => Ok(CoreForm::Emit(event_number(events, name), 0, 0)),
+        StmtForm::Emit(name, _) => Ok(CoreForm::Emit(events.number(name), 0, 0)),
         StmtForm::Change(_, _, _) | StmtForm::Step(_, _) => Ok(CoreForm::Return),
         StmtForm::If(_, _, _) | StmtForm::When(_, _) | StmtForm::While(_, _) => {
             Ok(CoreForm::Return)
@@ -59,8 +57,8 @@ fn core_form(
     }
 }
 
-fn core_stmt(alloc: Global, events: &[Sized], names: &Names, stmt: &Stmt) -> Result<CoreStmt, Mem>
-    ensures { IfOk result (λ core. core_stmt_view core ≡ core_stmt_in events.now (looked names.now) (stmt_view stmt.now)) }
+fn core_stmt(alloc: Global, events: &Events, names: &Names, stmt: &Stmt) -> Result<CoreStmt, Mem>
+    ensures { IfOk result (λ core. core_stmt_view core ≡ core_stmt_in (placed events.now) (looked names.now) (stmt_view stmt.now)) }
 {
     let form = core_form(alloc, events, names, &stmt.form)?;
     Ok(CoreStmt {
@@ -120,12 +118,12 @@ pub fn add_values(
 /// Adds the cores of statements.
 pub fn add_stmts(
     alloc: Global,
-    events: &[Sized],
+    events: &Events,
     names: &Names,
     stmts: &[Stmt],
     built: &mut List<CoreStmt>,
 ) -> Result<(), Mem>
-    ensures { OnOk result (map core_stmt_view built.new ≡ map core_stmt_view built.old ++ stmts_in events.now (looked names.now) stmts.now) }
+    ensures { OnOk result (map core_stmt_view built.new ≡ map core_stmt_view built.old ++ stmts_in (placed events.now) (looked names.now) stmts.now) }
 {
     for stmt in stmts {
         let core = core_stmt(alloc, events, names, stmt)?;

@@ -1,31 +1,11 @@
-ghost use Rattle.std.specs.Prelude.{◌≡◌, bytes_eq, position};
+ghost use Rattle.std.specs.Prelude.{◌≡◌};
 ghost use Rattle.aseba_tree.specs.View.{decl_view, stmt_view};
 ghost use Rattle.aseba_compile.specs.Straight.{any, is_straight_stmt};
-ghost use Rattle.aseba_compile.specs.StraightRead.{are_built_stmts, are_built_values, has_cell, is_built_value, looked, number_in};
+ghost use Rattle.aseba_compile.specs.StraightRead.{are_built_stmts, are_built_values, has_cell, is_built_value, looked};
 
 use crate::straight::names::Names;
 use crate::straight::sums::{is_all, is_sum};
-use aseba_tree::{Decl, Sized, Stmt, StmtForm};
-use aseba_words::Name;
-
-/// The place of the first event of a name.
-fn place_of(events: &[Sized], name: &[u8]) -> Option<usize>
-    ensures { result ≡ position (λ event. bytes_eq event.name name.now) events.now }
-{
-    events
-        .iter()
-        .position(|event| event.name.as_bytes() == name)
-}
-
-/// The number of an event.
-pub fn event_number(events: &[Sized], name: &Name) -> u16
-    ensures { result ≡ number_in events.now name.now }
-{
-    match place_of(events, name.as_bytes()) {
-        Some(place) if place < 65536 => place as u16,
-        _ => 0,
-    }
-}
+use aseba_tree::{Decl, Stmt, StmtForm};
 
 /// Whether a statement assigns a sum to a variable of one cell, or sends an event without an
 /// argument.
