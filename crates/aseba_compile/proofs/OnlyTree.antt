@@ -8,12 +8,10 @@ use Rattle.aseba_tree.specs.Code.{Source, Project}
 use Rattle.aseba_tree.specs.Tokens.{Tokens, behind, first_place}
 use Rattle.aseba_tree.specs.Spells.{Spells}
 use Rattle.aseba_lexer.specs.Lexed as lexer
-use Rattle.aseba_lexer.specs.declared.error.LexError.{LexError}
-use Rattle.aseba_lexer.specs.declared.error.LexError.TheVariants as lex
 use Rattle.aseba_parser.specs.Parsed as parser
 use Rattle.aseba_parser.specs.declared.error.SyntaxError.{SyntaxError}
 use Rattle.aseba_parser.specs.declared.error.SyntaxError.TheVariants as syntax
-use Rattle.aseba_compile.specs.Reading.{Reads, IsOnlyTree, IsTextRefused, lex_refusal, syntax_refusal}
+use Rattle.aseba_compile.specs.Reading.{Reads, IsOnlyTree, IsTextRefused, syntax_refusal}
 
 pub only_tree : (project : Project) (text : List ℕ) (tokens slice : List Token) (end : Pos) (source : Source) → slice ≡ tokens → Tokens text tokens → lexer.IsDecided text
     → parser.IsTreeOf project slice source → parser.IsDecided project slice end → IsOnlyTree project text source
@@ -26,12 +24,6 @@ only_tree project text tokens slice end source e lexed cut tree decided = record
 }
 
 -- an error tells a refusal
-pub lex-refused : (project : Project) (text : List ℕ) (error : LexError) → lexer.TellsFault text error → IsTextRefused project text (lex_refusal error)
-lex-refused project text (lex.BadByte at) h = h
-lex-refused project text (lex.BadNumber at) h = h
-lex-refused project text (lex.OpenComment at) h = h
-lex-refused project text lex.Mem h = tt
-
 pub syntax-refused : (project : Project) (text : List ℕ) (tokens slice : List Token) (end : Pos) (error : SyntaxError) → slice ≡ tokens → Tokens text tokens → end ≡ behind first_place text
     → parser.TellsFault project slice end error → IsTextRefused project text (syntax_refusal error)
 syntax-refused project text tokens slice end error e lexed f told =

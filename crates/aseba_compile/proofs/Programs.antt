@@ -2,7 +2,6 @@
 use Rattle.std.proofs.Common.{◌≡◌, refl, sym, ◌∙◌, subst, ℕ, ◌<◌, ◌≤◌, List, length, map, take, replicate, arith}
 use Rattle.std.specs.Prelude.{All, slice_index}
 use Rattle.std.proofs.lemmas.List.{length-map}
-use Rattle.aseba_tree.specs.Code.{Project, Source}
 use Rattle.aseba_tree.specs.Layout.{layout}
 use Rattle.aseba_tree.specs.Numbers.{source_words}
 use Rattle.aseba_tree.specs.State as tree
@@ -11,14 +10,11 @@ use Rattle.aseba_codegen.specs.declared.image.Image.{Image}
 use Rattle.aseba_codegen.specs.Words.{core_code}
 use Rattle.aseba_codegen.proofs.Lengths.{code-long}
 use Rattle.aseba_check.specs.declared.checked.Placed.{Placed}
-use Rattle.aseba_compile.specs.declared.refusal.Refusal.{Refusal}
-use Rattle.aseba_compile.specs.declared.refusal.Refusal.TheVariants.{Lex, Syntax, Mem}
 use Rattle.aseba_check.specs.Places.{placed_view}
-use Rattle.aseba_compile.specs.Compiled.{IsCodeOf, IsProgram, IsRefused}
-use Rattle.aseba_compile.specs.Reading.{IsOnlyTree, IsTextRefused}
+use Rattle.aseba_compile.specs.Compiled.{IsCodeOf, IsProgram}
 use Rattle.aseba_compile.specs.Straight.{straight_core}
 use Rattle.aseba_compile.specs.StraightRun.{Fits, straight_words, straight_lines}
-use Rattle.aseba_compile.specs.StraightWords.{IsStraightImage, IsTreeRefused}
+use Rattle.aseba_compile.specs.StraightWords.{IsStraightImage}
 use Rattle.aseba_compile.proofs.StraightCore.{core-shape, cells-fit}
 use Rattle.aseba_compile.proofs.StraightSound.{fits-straight}
 use Rattle.aseba_compile.proofs.StraightWords.{source_runs}
@@ -55,17 +51,3 @@ program-is program image places is words laid = record {
   cells = is.cells;
   code = rw (is.words, is.lines) (code-of program is.fits);
 }
-
--- a refusal of a text or of its tree
-pub text-refused : (project : Project) (text : List ℕ) (refusal : Refusal) → IsTextRefused project text refusal → IsRefused project text refusal
-text-refused project text (Lex error) h = h
-text-refused project text (Syntax error) h = h
-text-refused project text Mem h = tt
-text-refused project text refusal h = absurd h
-
-pub tree-refused : (project : Project) (text : List ℕ) (source : Source) (refusal : Refusal) → IsOnlyTree project text source → IsTreeRefused (record { project = project; source = source }) refusal
-    → IsRefused project text refusal
-tree-refused project text source (Lex error) only h = absurd h
-tree-refused project text source (Syntax error) only h = absurd h
-tree-refused project text source Mem only h = tt
-tree-refused project text source refusal only h = record { source = source; only = only; holds = h }
