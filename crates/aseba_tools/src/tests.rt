@@ -13,8 +13,8 @@ struct Outcome {
     err: MemorySink,
 }
 
-/// Runs the words of a line, which `|` parts, over one file in memory, with a read that is to fail or none, and room for so many
-/// bytes of output.
+/// Runs the words of a line over one file in memory, with a read that is to fail or none, and room
+/// for so many bytes of output.
 fn ran_with(
     alloc: Global,
     line: &str,
@@ -24,7 +24,7 @@ fn ran_with(
 ) -> Result<Outcome, Mem> {
     let mut files = Vec::new(alloc);
     files.push(file(alloc, b"x.aseba", text)?)?;
-    ran_over(alloc, line, List::from_vec(files), failing, room)
+    ran_over(alloc, line, List::from_vec(files), failing, room, 1000)
 }
 
 fn file(alloc: Global, name: &[u8], bytes: &[u8]) -> Result<MemoryFile, Mem> {
@@ -39,29 +39,41 @@ fn ran_for(alloc: Global, line: &str, project: &[u8], text: &[u8]) -> Result<Out
     let mut files = Vec::new(alloc);
     files.push(file(alloc, b"x.aseba", text)?)?;
     files.push(file(alloc, b"p", project)?)?;
-    ran_over(alloc, line, List::from_vec(files), 0, 1000)
+    ran_over(alloc, line, List::from_vec(files), 0, 1000, 1000)
 }
 
+/// The words of a line, which `|` parts. An empty line has none.
+fn words_of(alloc: Global, line: &str) -> Result<Vec<String>, Mem> {
+    let mut words = Vec::new(alloc);
+    if line.is_empty() {
+        return Ok(words);
+    }
+    for word in line.split('|') {
+        words.push(String::from_str(alloc, word)?)?;
+    }
+    Ok(words)
+}
+
+/// Runs the words of a line over files, with room for so many bytes of output and so many bytes of
+/// messages.
 fn ran_over(
     alloc: Global,
     line: &str,
     files: List<MemoryFile>,
     failing: u64,
     room: usize,
+    err_room: usize,
 ) -> Result<Outcome, Mem> {
-    let mut owned = Vec::new(alloc);
-    for word in line.split('|') {
-        owned.push(String::from_str(alloc, word)?)?;
-    }
+    let words = words_of(alloc, line)?;
     let failing = List::from_slice(alloc, &[failing])?;
     let mut files = MemoryFiles::new(files, failing);
     let mut dialer = NoDialer::new();
     let mut out = MemorySink::new(alloc, room, List::new(alloc))?;
-    let mut err = MemorySink::new(alloc, 1000, List::new(alloc))?;
+    let mut err = MemorySink::new(alloc, err_room, List::new(alloc))?;
     let mut clock = MemoryClock::new(0, List::new(alloc));
     let ran = run(
         alloc,
-        owned.as_slice(),
+        words.as_slice(),
         &mut files,
         &mut dialer,
         &mut out,
@@ -316,6 +328,7 @@ fn words_that_are_no_command_line(rt: HostRuntime) -> Result<(), Fail> {
         "dump|tcp:localhost:33333|--raw",
         "sim|default",
         "",
+        "|",
     ] {
         let ran = ran_with(rt.alloc(), line, b"", 0, 1000)?;
         assert_eq!(rt; ran.number, 1);
@@ -441,6 +454,19 @@ fn a_sink_that_fails_has_the_first_bytes(rt: HostRuntime) -> Result<(), Fail> {
         assert_eq!(rt; ran.number, 7);
         assert_eq!(rt; ran.out.bytes(), &whole[..room]);
         assert_eq!(rt; ran.err.bytes(), b"aseba: write failed\n".as_slice());
+    }
+    Ok(())
+}
+
+#[test]
+fn an_err_that_fails_has_the_first_bytes(rt: HostRuntime) -> Result<(), Fail> {
+    let whole = b"aseba: no file missing\n";
+    for room in 0..=whole.len() {
+        let files = List::new(rt.alloc());
+        let ran = ran_over(rt.alloc(), "sim|default|missing|5", files, 0, 1000, room)?;
+        assert_eq!(rt; ran.number, 2);
+        assert_eq!(rt; ran.out.bytes(), b"".as_slice());
+        assert_eq!(rt; ran.err.bytes(), &whole[..room]);
     }
     Ok(())
 }
