@@ -190,23 +190,15 @@ fn forms_that_are_not_compiled(rt: HostRuntime) -> Result<(), Fail> {
 fn faults_of_names(rt: HostRuntime) -> Result<(), Fail> {
     let texts = [
         ("var x = x", "1:9 Unknown"),
-        ("x = 1", "1:1 Unknown"),
-        ("var a[nobody]", "1:7 Unknown"),
         ("var a[2]\na = [1, nobody, 3]", "2:9 Unknown"),
         ("callsub t\nsub s", "1:9 Unknown"),
         ("call nothing(1)", "1:6 Unknown"),
-        ("emit nothing", "1:6 Unknown"),
-        ("onevent nothing", "1:9 Unknown"),
         ("var x var x", "1:11 Duplicate"),
         ("var x\nvar x[0]", "2:5 Duplicate"),
         ("var _id", "1:5 Duplicate"),
         ("onevent ping\nonevent ping", "2:9 Duplicate"),
         ("sub a\nsub a", "2:5 Duplicate"),
         ("sub a\ncallsub b\nsub b\ncallsub a", "4:9 Recursion"),
-        (
-            "sub a\ncallsub b\nsub b\ncallsub c\nsub c\ncallsub a",
-            "6:9 Recursion",
-        ),
         ("onevent ping\ncallsub a\nsub a\ncallsub a", "4:9 Recursion"),
     ];
     all_refused(rt.alloc(), &rt, &texts)
@@ -216,13 +208,10 @@ fn faults_of_names(rt: HostRuntime) -> Result<(), Fail> {
 fn faults_of_sizes(rt: HostRuntime) -> Result<(), Fail> {
     let texts = [
         ("var x = event.args", "1:7 BadSize want 1 got 32"),
-        ("var a[2]\na = [1, 2, 3]", "2:3 BadSize want 2 got 3"),
         (
             "var a[2] var b[3]\na = a + b[9]",
             "2:7 BadSize want 2 got 1",
         ),
-        ("var a[0]", "1:5 BadSize want 1 got 0"),
-        ("var a[4097]", "1:5 BadSize want 4096 got 4097"),
         (
             "var a[2] var b[3]\ncall math.add(a, a, b)",
             "2:21 BadSize want 2 got 3",
@@ -244,12 +233,10 @@ fn faults_of_sizes(rt: HostRuntime) -> Result<(), Fail> {
 #[test]
 fn faults_of_constants(rt: HostRuntime) -> Result<(), Fail> {
     let texts = [
-        ("var a[1 + nobody]", "1:7 NotConstant"),
         ("var x\nvar i\nfor i in x:3 do\nend", "3:10 NotConstant"),
         ("var a[1 / 0]", "1:9 ConstantDivision"),
         ("var a[3]\na[1 % 0] = 1", "2:5 ConstantDivision"),
         ("var i\nfor i in 0:3 step 0 do\nend", "2:19 ZeroStep"),
-        ("var a[3]\na[3] = 1", "2:1 IndexOut size 3 index 3"),
         ("var a[3]\na[-1] = 1", "2:1 IndexOut size 3 index -1"),
         ("var a[3]\na[2:1] = 1", "2:1 IndexOut size 3 index 1"),
         ("var a[3]\nvar x\na[9:x] = 1", "3:1 IndexOut size 3 index 9"),
