@@ -1,6 +1,5 @@
 pub mod Alike
 pub mod CommandLemmas
-pub mod Dumping
 pub mod Loading
 pub mod Nodes
 pub mod Outputs

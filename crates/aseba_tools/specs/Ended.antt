@@ -1,11 +1,11 @@
 -- What a status says of a call of `sim`: why it came, and what was written.
-use Rattle.std.specs.Prelude.{◌≡◌, ℕ, ◌<◌, ◌⊎◌, Bool, true, false, MatchBool, List, length, Option, None, IfSome, IsSomeAnd}
+use Rattle.std.specs.Prelude.{◌≡◌, ℕ, ◌⊎◌, Bool, true, false, MatchBool, List, Option}
 use Rattle.aseba_edge.specs.Counts.{Counts}
 use Rattle.aseba_edge.specs.Sink.{Took, TookFirst}
 use Rattle.aseba_tree.specs.Code as tree
 use Rattle.aseba_tree.specs.View.{project_view}
 use Rattle.aseba_tree.specs.declared.project.Project.{Project}
-use Rattle.aseba_tools.specs.FileText.{IsFileText}
+use Rattle.aseba_tools.specs.FileText.{IsFileText, NotRead, most_text}
 use Rattle.aseba_tools.specs.Meant.{RanText}
 use Rattle.aseba_tools.specs.ProjectWord.{IsProject, NoProject}
 use Rattle.aseba_tools.specs.declared.status.Status.{Status}
@@ -31,25 +31,16 @@ IsOfBigFile name (TooBig file) = file ≡ name
 IsOfBigFile name Memory = Unit {0}
 IsOfBigFile name _ = ⊥
 
--- The file of a source wasn't read: there is none, it is longer than a source may be, or the read failed. Where the files tell what they hold, it is so of
--- them.
-abbrev pub NotRead : List ℕ → Option (Option (List ℕ)) → Status → Type 0
-NotRead source held (Absent file) = (file ≡ source) × IfSome held (λ h. h ≡ None)
-NotRead source held ReadFault = Unit {0}
-NotRead source held Memory = Unit {0}
-NotRead source held (TooBig file) = (file ≡ source) × IfSome held (λ h. IsSomeAnd h (λ bytes. 1048576 < length bytes))
-NotRead source held _ = ⊥
-
 -- the file of a source was read, and its text was run
 pub record RanFile (project : tree.Project) (held : Option (Option (List ℕ))) (ticks : ℕ) (before after : Option (List ℕ)) (status : Status) : Type 0 where
   pub text : List ℕ
-  pub read : IsFileText 1048576 held text
+  pub read : IsFileText most_text held text
   pub ran : RanText project text ticks before after status
 
 -- The file was not read, and nothing was written; or its text was run.
 abbrev pub RanSource : tree.Project → (source : List ℕ) → Option (Option (List ℕ)) → (ticks : ℕ) → (before after : Option (List ℕ)) → Status → Type 0
 RanSource project source held ticks before after status =
-    (NotRead source held status × (after ≡ before)) ⊎ RanFile project held ticks before after status
+    (NotRead most_text source held status × (after ≡ before)) ⊎ RanFile project held ticks before after status
 
 -- With the word's project the source decides.
 pub record RanOn (word source : List ℕ) (files : List ℕ → Option (Option (List ℕ))) (ticks : ℕ) (before after : Option (List ℕ)) (status : Status) : Type 0 where

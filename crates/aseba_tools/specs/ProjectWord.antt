@@ -1,5 +1,5 @@
 -- Which project a word names, or why it names none.
-use Rattle.std.specs.Prelude.{◌≡◌, ◌≢◌, ℕ, ◌+◌, ◌<◌, ◌⊎◌, ℤ, Bool, true, false, MatchBool, nat_eq, List, length, map, take, codes, Option, None, Result, Err, IfSome, IsSomeAnd}
+use Rattle.std.specs.Prelude.{◌≡◌, ◌≢◌, ℕ, ◌+◌, ◌<◌, ◌⊎◌, ℤ, Bool, true, false, MatchBool, nat_eq, List, length, map, take, codes, Option, Result, Err}
 use Rattle.std.specs.Str.Lines.{lines}
 use Rattle.std.specs.Cmp.Lexicographic.{pointwise}
 use Rattle.aseba_tree.specs.declared.description.Native.{Native}
@@ -7,9 +7,9 @@ use Rattle.aseba_tree.specs.declared.project.Project.{Project}
 use Rattle.aseba_describe.specs.Grammar.{ProjectText, IsBadLine}
 use Rattle.aseba_describe.specs.Defaults.{default_project}
 use Rattle.aseba_describe.specs.NativeLines.{IsNativeLine}
-use Rattle.aseba_tools.specs.FileText.{IsFileText}
+use Rattle.aseba_tools.specs.FileText.{IsFileText, NotRead, most_text}
 use Rattle.aseba_tools.specs.declared.status.Status.{Status}
-use Rattle.aseba_tools.specs.declared.status.Status.TheVariants.{Absent, ReadFault, BadProject, Memory, TooBig}
+use Rattle.aseba_tools.specs.declared.status.Status.TheVariants.{ReadFault, BadProject, Memory}
 
 -- the word `default` stands for the default project, any other for a file
 abbrev pub is_default : List ℕ → Bool
@@ -59,7 +59,7 @@ IsToBlame text line = IsBadLine (lines text) line ⊎ IsOtherNative text line
 
 pub record IsFileProject (held : Option (Option (List ℕ))) (p : Project) : Type 0 where
   pub text : List ℕ
-  pub read : IsFileText 1048576 held text
+  pub read : IsFileText most_text held text
   pub run : IsRunProject text p
 
 -- the project of a word, where the files hold this under it
@@ -69,7 +69,7 @@ IsProject word held p = MatchBool (is_default word) (p ≡ default_project) (IsF
 -- a file's text has this line to blame
 pub record IsBlamed (held : Option (Option (List ℕ))) (line : ℕ) : Type 0 where
   pub text : List ℕ
-  pub read : IsFileText 1048576 held text
+  pub read : IsFileText most_text held text
   pub blame : IsToBlame text line
 
 -- why a text spells no project that a machine can be made for
@@ -85,12 +85,8 @@ is_read_fault _ = false
 
 -- why a file gives no project
 abbrev pub NoFileProject : List ℕ → Option (Option (List ℕ)) → Status → Type 0
-NoFileProject word held (Absent file) = (file ≡ word) × IfSome held (λ h. h ≡ None)
-NoFileProject word held ReadFault = Unit {0}
 NoFileProject word held (BadProject line) = IsBlamed held line
-NoFileProject word held Memory = Unit {0}
-NoFileProject word held (TooBig file) = (file ≡ word) × IfSome held (λ h. IsSomeAnd h (λ bytes. 1048576 < length bytes))
-NoFileProject word held _ = ⊥
+NoFileProject word held status = NotRead most_text word held status
 
 -- The status of a word that gives no project; for the default one only memory may not suffice.
 abbrev pub NoProject : List ℕ → Option (Option (List ℕ)) → Status → Type 0

@@ -4,6 +4,7 @@ ghost use Rattle.std.specs.Prelude.{◌≡◌, ◌≤◌, length, option_map};
 ghost use Rattle.aseba_tree.specs.Inside.{InsideProject};
 ghost use Rattle.aseba_tree.specs.View.{project_view};
 ghost use Rattle.aseba_edge.specs.Counts.{Counts};
+ghost use Rattle.aseba_tools.specs.FileText.{most_text};
 ghost use Rattle.aseba_tools.specs.Ended.{RanSource, Simulated, is_read_fault, is_write_fault};
 ghost use Rattle.aseba_tools.specs.Meant.{RanText};
 
@@ -74,7 +75,7 @@ fn run_text<S: Sink>(
     out: &mut S,
 ) -> Status
     requires inside { InsideProject project.now }
-    requires short { length text.now ≤ 1048576 }
+    requires short { length text.now ≤ most_text }
     ensures ran { RanText (project_view project.now) text.now ticks (S.taken out.old) (S.taken out.new) result }
     ensures write_fault { Counts (is_write_fault result) (S.faults out.old) (S.faults out.new) }
 {
