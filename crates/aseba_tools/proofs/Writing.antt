@@ -2,7 +2,7 @@
 use Rattle.std.proofs.Common.{◌≡◌, ◌≤◌, length-append, ℕ, ◌-◌, List, [], ◌∷◌, ◌++◌, length, map, take, Option, None, Some, Result, Ok, Err, OnOk, OnErr, is_err, true, false, ◌∙◌, ap, sym, arith, refl, subst, append_assoc, append-nil, codes}
 use Rattle.aseba_edge.specs.declared.sink.PutFault.{PutFault}
 use Rattle.aseba_edge.specs.Counts.{Counts}
-use Rattle.aseba_tools.specs.Ended.{MessagePut}
+use Rattle.aseba_tools.specs.Outcome.{MessagePut}
 use Rattle.aseba_edge.specs.Sink.{and_then, grown, Took, TookFewer, TookFirst}
 use Rattle.aseba_edge.proofs.Puts.{fewer_after, first_of_more, take_past}
 use Rattle.aseba_tree.specs.Line.{Line, line_by, lines_text, line_text}

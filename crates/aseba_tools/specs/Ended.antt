@@ -1,7 +1,5 @@
 -- What a status says of a call of `sim`: why it came, and what was written.
-use Rattle.std.specs.Prelude.{◌≡◌, ℕ, ◌⊎◌, Bool, true, false, MatchBool, List, Option}
-use Rattle.aseba_edge.specs.Counts.{Counts}
-use Rattle.aseba_edge.specs.Sink.{Took, TookFirst}
+use Rattle.std.specs.Prelude.{◌≡◌, ℕ, ◌⊎◌, List, Option}
 use Rattle.aseba_tree.specs.Code as tree
 use Rattle.aseba_tree.specs.View.{project_view}
 use Rattle.aseba_tree.specs.declared.project.Project.{Project}
@@ -9,27 +7,6 @@ use Rattle.aseba_tools.specs.FileText.{IsFileText, NotRead, most_text}
 use Rattle.aseba_tools.specs.Meant.{RanText}
 use Rattle.aseba_tools.specs.ProjectWord.{IsProject, NoProject}
 use Rattle.aseba_tools.specs.declared.status.Status.{Status}
-use Rattle.aseba_tools.specs.declared.status.Status.TheVariants.{Absent, ReadFault, WriteFault, Memory, TooBig}
-
--- the status says that a read failed, or that a write did
-abbrev pub is_read_fault : Status → Bool
-is_read_fault ReadFault = true
-is_read_fault _ = false
-
-abbrev pub is_write_fault : Status → Bool
-is_write_fault WriteFault = true
-is_write_fault _ = false
-
--- the statuses of a file that isn't there, and of one that is too long; want of memory may come at any time
-abbrev pub IsOfNoFile : List ℕ → Status → Type 0
-IsOfNoFile name (Absent file) = file ≡ name
-IsOfNoFile name Memory = Unit {0}
-IsOfNoFile name _ = ⊥
-
-abbrev pub IsOfBigFile : List ℕ → Status → Type 0
-IsOfBigFile name (TooBig file) = file ≡ name
-IsOfBigFile name Memory = Unit {0}
-IsOfBigFile name _ = ⊥
 
 -- the file of a source was read, and its text was run
 pub record RanFile (project : tree.Project) (held : Option (Option (List ℕ))) (ticks : ℕ) (before after : Option (List ℕ)) (status : Status) : Type 0 where
@@ -52,9 +29,3 @@ pub record RanOn (word source : List ℕ) (files : List ℕ → Option (Option (
 abbrev pub Simulated : (word source : List ℕ) → (List ℕ → Option (Option (List ℕ))) → (ticks : ℕ) → (before after : Option (List ℕ)) → Status → Type 0
 Simulated word source files ticks before after status =
     (NoProject word (files word) status × (after ≡ before)) ⊎ RanOn word source files ticks before after status
-
--- what came of a message: the sink took all of it, or where a put failed its first bytes
-pub record MessagePut (before : Option (List ℕ)) (message : List ℕ) (after : Option (List ℕ)) (faults_before faults_after : ℕ) : Type 0 where
-  pub failed : Bool
-  pub count : Counts failed faults_before faults_after
-  pub took : MatchBool failed (TookFirst before message after) (Took before message after)

@@ -5,6 +5,7 @@ pub mod FileText
 pub mod Ended
 pub mod Meant
 pub mod Node
+pub mod Outcome
 pub mod Page
 pub mod ProjectWord
 pub mod SimText

@@ -1,5 +1,5 @@
 -- Which project a word names, or why it names none.
-use Rattle.std.specs.Prelude.{◌≡◌, ◌≢◌, ℕ, ◌+◌, ◌<◌, ◌⊎◌, ℤ, Bool, true, false, MatchBool, nat_eq, List, length, map, take, codes, Option, Result, Err}
+use Rattle.std.specs.Prelude.{◌≡◌, ◌≢◌, ℕ, ◌+◌, ◌<◌, ◌⊎◌, ℤ, Bool, MatchBool, nat_eq, List, length, map, take, codes, Option}
 use Rattle.std.specs.Str.Lines.{lines}
 use Rattle.std.specs.Cmp.Lexicographic.{pointwise}
 use Rattle.aseba_tree.specs.declared.description.Native.{Native}
@@ -9,7 +9,7 @@ use Rattle.aseba_describe.specs.Defaults.{default_project}
 use Rattle.aseba_describe.specs.NativeLines.{IsNativeLine}
 use Rattle.aseba_tools.specs.FileText.{IsFileText, NotRead, most_text}
 use Rattle.aseba_tools.specs.declared.status.Status.{Status}
-use Rattle.aseba_tools.specs.declared.status.Status.TheVariants.{ReadFault, BadProject, Memory}
+use Rattle.aseba_tools.specs.declared.status.Status.TheVariants.{BadProject, Memory}
 
 -- the word `default` stands for the default project, any other for a file
 abbrev pub is_default : List ℕ → Bool
@@ -77,11 +77,6 @@ abbrev pub NoTextProject : List ℕ → Status → Type 0
 NoTextProject text (BadProject line) = IsToBlame text line
 NoTextProject text Memory = Unit {0}
 NoTextProject text _ = ⊥
-
--- a read failed on the way to a project
-abbrev pub is_read_fault : Result Project Status → Bool
-is_read_fault (Err ReadFault) = true
-is_read_fault _ = false
 
 -- why a file gives no project
 abbrev pub NoFileProject : List ℕ → Option (Option (List ℕ)) → Status → Type 0

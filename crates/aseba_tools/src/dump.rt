@@ -2,14 +2,14 @@
 
 ghost use Rattle.std.specs.Prelude.{◌≡◌, option_map};
 ghost use Rattle.aseba_edge.specs.Counts.{Counts};
-ghost use Rattle.aseba_tools.specs.Ended.{is_read_fault, is_write_fault};
+ghost use Rattle.aseba_tools.specs.Outcome.{is_read_fault, is_write_fault};
 ghost use Rattle.aseba_tools.specs.Dumped.{Dumped, WroteDump};
 
+use crate::file::read_file;
 use crate::frames::{StreamEnd, put_stream};
 use crate::putting::Unwritten;
 use crate::status::Status;
-use crate::unread::{absent, too_big};
-use aseba_edge::{FileAnswer, Files, Sink};
+use aseba_edge::{Files, Sink};
 use std::alloc::Global;
 
 /// The greatest number of bytes that a file of frames may have.
@@ -22,12 +22,9 @@ pub fn dump<F: Files, S: Sink>(alloc: Global, file: &str, files: &mut F, out: &m
     ensures write_fault { Counts (is_write_fault result) (S.faults out.old) (S.faults out.new) }
     ensures files { F.contents files.new ≡ F.contents files.old }
 {
-    match files.read(alloc, file, MOST_DUMPED) {
-        FileAnswer::Bytes(bytes) => dump_bytes(alloc, bytes.as_slice(), out),
-        FileAnswer::Absent => absent(alloc, file),
-        FileAnswer::TooBig => too_big(alloc, file),
-        FileAnswer::Failed => Status::ReadFault,
-        FileAnswer::Mem => Status::Memory,
+    match read_file(alloc, file, MOST_DUMPED, files) {
+        Ok(bytes) => dump_bytes(alloc, bytes.as_slice(), out),
+        Err(unread) => unread,
     }
 }
 

@@ -3,6 +3,7 @@
 
 mod command;
 mod dump;
+mod file;
 mod frames;
 mod lines;
 mod natives;
@@ -15,7 +16,6 @@ mod status;
 mod telling;
 mod text;
 mod top;
-mod unread;
 
 pub use aseba_compile::Refusal;
 pub use status::Status;

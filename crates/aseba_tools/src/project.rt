@@ -7,27 +7,25 @@ ghost use Rattle.aseba_tree.specs.Inside.{InsideProject};
 ghost use Rattle.aseba_describe.specs.Defaults as describe;
 ghost use Rattle.aseba_describe.specs.Grammar.{ProjectText};
 ghost use Rattle.aseba_describe.specs.NativeLines.{IsNativeLine};
+ghost use Rattle.aseba_tools.specs.Outcome.{is_failed_read};
 ghost use Rattle.aseba_tools.specs.ProjectWord.{AreFirst, IsFileProject, IsFirstOther, IsProject, IsRunProject, NoFileProject, NoProject, NoTextProject, known_natives};
 ghost use Rattle.aseba_tools.specs.ProjectWord as spec;
 
+use crate::file::{MOST_TEXT, read_file};
 use crate::natives::first_other;
 use crate::status::Status;
-use crate::unread::{absent, too_big};
 use aseba_describe::{ProjectError, default_project, native_line, read_project};
-use aseba_edge::{FileAnswer, Files};
+use aseba_edge::Files;
 use aseba_tree::{Native, Project};
 use aseba_words::Mem;
 use std::alloc::Global;
-
-/// The greatest number of bytes that a project's text may have.
-const MOST_PROJECT: u64 = 1_048_576;
 
 /// The project that a word names: the default one, or that of a file's text.
 pub fn named_project<F: Files>(alloc: Global, word: &str, files: &mut F) -> Result<Project, Status>
     ensures project { IfOk result (IsProject word.now (option_map (λ files. files word.now) (F.contents files.old))) }
     ensures inside { IfOk result InsideProject }
     ensures why { IfErr result (NoProject word.now (option_map (λ files. files word.now) (F.contents files.old))) }
-    ensures read_fault { Counts (spec.is_read_fault result) (F.faults files.old) (F.faults files.new) }
+    ensures read_fault { Counts (is_failed_read result) (F.faults files.old) (F.faults files.new) }
     ensures files { F.contents files.new ≡ F.contents files.old }
 {
     if is_default(word) {
@@ -60,15 +58,12 @@ fn file_project<F: Files>(alloc: Global, word: &str, files: &mut F) -> Result<Pr
     ensures project { IfOk result (IsFileProject (option_map (λ files. files word.now) (F.contents files.old))) }
     ensures inside { IfOk result InsideProject }
     ensures why { IfErr result (NoFileProject word.now (option_map (λ files. files word.now) (F.contents files.old))) }
-    ensures read_fault { Counts (spec.is_read_fault result) (F.faults files.old) (F.faults files.new) }
+    ensures read_fault { Counts (is_failed_read result) (F.faults files.old) (F.faults files.new) }
     ensures files { F.contents files.new ≡ F.contents files.old }
 {
-    match files.read(alloc, word, MOST_PROJECT) {
-        FileAnswer::Bytes(text) => text_project(alloc, text.as_slice()),
-        FileAnswer::Absent => Err(absent(alloc, word)),
-        FileAnswer::TooBig => Err(too_big(alloc, word)),
-        FileAnswer::Failed => Err(Status::ReadFault),
-        FileAnswer::Mem => Err(Status::Memory),
+    match read_file(alloc, word, MOST_TEXT, files) {
+        Ok(text) => text_project(alloc, text.as_slice()),
+        Err(unread) => Err(unread),
     }
 }
 

@@ -5,21 +5,19 @@ ghost use Rattle.aseba_tree.specs.Inside.{InsideProject};
 ghost use Rattle.aseba_tree.specs.View.{project_view};
 ghost use Rattle.aseba_edge.specs.Counts.{Counts};
 ghost use Rattle.aseba_tools.specs.FileText.{most_text};
-ghost use Rattle.aseba_tools.specs.Ended.{RanSource, Simulated, is_read_fault, is_write_fault};
+ghost use Rattle.aseba_tools.specs.Ended.{RanSource, Simulated};
+ghost use Rattle.aseba_tools.specs.Outcome.{is_read_fault, is_write_fault};
 ghost use Rattle.aseba_tools.specs.Meant.{RanText};
 
+use crate::file::{MOST_TEXT, read_file};
 use crate::project::named_project;
 use crate::putting::Unwritten;
 use crate::sim::simulate;
 use crate::status::Status;
-use crate::unread::{absent, too_big};
 use aseba_compile::{Refusal, compile};
-use aseba_edge::{FileAnswer, Files, Sink};
+use aseba_edge::{Files, Sink};
 use aseba_tree::Project;
 use std::alloc::Global;
-
-/// The greatest number of bytes that a source may have.
-const MOST_SOURCE: u64 = 1_048_576;
 
 /// Runs a source for so many ticks on the node of the project that a word names, and writes what it
 /// tells.
@@ -57,12 +55,9 @@ fn run_source<F: Files, S: Sink>(
     ensures write_fault { Counts (is_write_fault result) (S.faults out.old) (S.faults out.new) }
     ensures files { F.contents files.new ≡ F.contents files.old }
 {
-    match files.read(alloc, source, MOST_SOURCE) {
-        FileAnswer::Bytes(text) => run_text(alloc, project, text.as_slice(), ticks, out),
-        FileAnswer::Absent => absent(alloc, source),
-        FileAnswer::TooBig => too_big(alloc, source),
-        FileAnswer::Failed => Status::ReadFault,
-        FileAnswer::Mem => Status::Memory,
+    match read_file(alloc, source, MOST_TEXT, files) {
+        Ok(text) => run_text(alloc, project, text.as_slice(), ticks, out),
+        Err(unread) => unread,
     }
 }
 

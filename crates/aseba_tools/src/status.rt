@@ -2,7 +2,7 @@ ghost use Rattle.std.specs.Prelude.{◌≡◌};
 ghost use Rattle.aseba_tools.specs.StatusText.{number_of};
 
 use aseba_compile::Refusal;
-use aseba_words::Name;
+use aseba_words::{Mem, Name};
 
 /// How a call of a tool ended.
 #[derive(Debug, Drop)]
@@ -35,6 +35,16 @@ pub enum Status {
     DialFault,
     /// A link gave more bytes than are read of one.
     LongStream,
+}
+
+impl From<Mem> for Status {
+    ghost use Rattle.aseba_tools.specs.declared.status.Status.TheVariants.{Memory};
+
+    ghost from_gives = { λ _ status. status ≡ Memory };
+
+    fn from(_error: Mem) -> Status {
+        Status::Memory
+    }
 }
 
 impl Status {

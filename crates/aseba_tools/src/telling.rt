@@ -7,7 +7,7 @@ mod unsound;
 ghost use Rattle.std.specs.Prelude.{◌≡◌, [], ◌++◌, codes, is_err, OnOk, OnErr};
 ghost use Rattle.aseba_edge.specs.Counts.{Counts};
 ghost use Rattle.aseba_edge.specs.Sink.{Took, TookFirst};
-ghost use Rattle.aseba_tools.specs.Ended.{MessagePut};
+ghost use Rattle.aseba_tools.specs.Outcome.{MessagePut};
 ghost use Rattle.aseba_tools.specs.StatusText.{message_of};
 
 use crate::status::Status;

@@ -2,7 +2,8 @@ ghost use Rattle.std.specs.Prelude.{◌≡◌, ◌↔◌, false, ℕ, List, None
 ghost use Rattle.aseba_edge.specs.Counts.{Counts};
 ghost use Rattle.aseba_tools.specs.Command.{IsSim, IsDump, IsNoCommand};
 ghost use Rattle.aseba_tools.specs.Dumped.{Dumped};
-ghost use Rattle.aseba_tools.specs.Ended.{Simulated, MessagePut, is_read_fault, is_write_fault};
+ghost use Rattle.aseba_tools.specs.Ended.{Simulated};
+ghost use Rattle.aseba_tools.specs.Outcome.{MessagePut, is_read_fault, is_write_fault};
 ghost use Rattle.aseba_tools.specs.StatusText.{message_of};
 
 use crate::command::{dump_command, sim_command};
