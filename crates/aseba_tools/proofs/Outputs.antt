@@ -1,5 +1,5 @@
 -- What a run of a compiled text wrote is what the text means.
-use Rattle.std.proofs.Common.{◌≡◌, ℕ, suc, ◌+◌, ◌≤◌, List, [], ◌∷◌, ◌++◌, map, drop, length, sum_by, Option, ap, refl, sym, ◌∙◌, arith, length-append}
+use Rattle.std.proofs.Common.{◌≡◌, ℕ, suc, ◌+◌, ◌≤◌, List, [], ◌∷◌, ◌++◌, map, drop, length, sum_by, Option, ap, refl, sym, ◌∙◌, arith, length-append, inr}
 use Rattle.std.proofs.lemmas.List.{drop-map, length-map}
 use Rattle.std.proofs.lemmas.List.Sums.{sum_by-cons}
 use Rattle.aseba_edge.specs.Sink.{Took, TookFirst}
@@ -16,8 +16,11 @@ use Rattle.aseba_check.specs.declared.checked.Placed.{Placed}
 use Rattle.aseba_compile.specs.declared.program.Program.{Program}
 use Rattle.aseba_check.specs.Places.{placed_view}
 use Rattle.aseba_compile.specs.Compiled.{IsProgram, IsCompiled}
-use Rattle.aseba_tools.specs.Meant.{without_lines, IsMeant, IsMeantOf, Wrote, WroteFirst}
+use Rattle.aseba_tools.specs.Meant.{without_lines, IsMeant, IsMeantOf, Wrote, WroteFirst, RanText}
 use Rattle.aseba_tools.specs.SimText.{layout_with, own_places, code_line, told_text, sim_text}
+use Rattle.aseba_tools.specs.Unwritten.{status_of}
+use Rattle.aseba_tools.specs.declared.putting.Unwritten.{Unwritten}
+use Rattle.aseba_tools.specs.declared.putting.Unwritten.TheVariants.{WriteFault, Mem}
 
 -- Places
 
@@ -95,8 +98,13 @@ module _ (project : Project) (text : List ℕ) (program : Program) (ticks : ℕ)
   pub wrote : Took before (sim_text project program ticks) after → Wrote project text ticks before after
   wrote took = record { written = sim_text project program ticks; meant = meant-of project text program ticks c; took = took }
 
-  pub wrote_first : TookFirst before (sim_text project program ticks) after → WroteFirst project text ticks before after
+  wrote_first : TookFirst before (sim_text project program ticks) after → WroteFirst project text ticks before after
   wrote_first took = record { written = sim_text project program ticks; meant = meant-of project text program ticks c; took = took }
+
+  -- how a run ended that wasn't written whole
+  pub ran_in_part : (unwritten : Unwritten) → TookFirst before (sim_text project program ticks) after → RanText project text ticks before after (status_of unwritten)
+  ran_in_part WriteFault took = wrote_first took
+  ran_in_part Mem took = inr (wrote_first took)
 
 -- a compiled text has places of all variables of the node
 pub node_placed : (project : code.Project) (text : List ℕ) (program : Program) → IsCompiled (project_view project) text program → length project.node.variables ≤ length program.places

@@ -24,14 +24,12 @@ pub fn sim_command(words: &[String]) -> Option<SimCommand<'_>>
     if tool.as_str() != "sim" {
         return None;
     }
-    match number_of_ticks(ticks.as_str()) {
-        Some(ticks) => Some(SimCommand {
-            project: project.as_str(),
-            source: source.as_str(),
-            ticks,
-        }),
-        None => None,
-    }
+    let ticks = number_of_ticks(ticks.as_str())?;
+    Some(SimCommand {
+        project: project.as_str(),
+        source: source.as_str(),
+        ticks,
+    })
 }
 
 /// A number of ticks: one or more decimal digits and nothing else.

@@ -7,7 +7,6 @@ ghost use Rattle.aseba_tools.specs.Dumped.{Dumped, WroteDump};
 
 use crate::file::read_file;
 use crate::frames::{StreamEnd, put_stream};
-use crate::putting::Unwritten;
 use crate::status::Status;
 use aseba_edge::{Files, Sink};
 use std::alloc::Global;
@@ -36,7 +35,6 @@ fn dump_bytes<S: Sink>(alloc: Global, bytes: &[u8], out: &mut S) -> Status
     match put_stream(alloc, bytes, out) {
         Ok(StreamEnd::Ended { .. }) => Status::Done,
         Ok(StreamEnd::Bad { place }) => Status::BadFrame { place },
-        Err(Unwritten::WriteFault) => Status::WriteFault,
-        Err(Unwritten::Mem) => Status::Memory,
+        Err(unwritten) => Status::from(unwritten),
     }
 }

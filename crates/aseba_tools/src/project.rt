@@ -47,10 +47,7 @@ fn without_file(alloc: Global) -> Result<Project, Status>
     ensures inside { IfOk result InsideProject }
     ensures why { IfErr result (λ status. status ≡ Status.Memory) }
 {
-    match default_project(alloc) {
-        Ok(project) => Ok(project),
-        Err(_) => Err(Status::Memory),
-    }
+    Ok(default_project(alloc)?)
 }
 
 /// The project of a file's text.
@@ -61,10 +58,8 @@ fn file_project<F: Files>(alloc: Global, word: &str, files: &mut F) -> Result<Pr
     ensures read_fault { Counts (is_failed_read result) (F.faults files.old) (F.faults files.new) }
     ensures files { F.contents files.new ≡ F.contents files.old }
 {
-    match read_file(alloc, word, MOST_TEXT, files) {
-        Ok(text) => text_project(alloc, text.as_slice()),
-        Err(unread) => Err(unread),
-    }
+    let text = read_file(alloc, word, MOST_TEXT, files)?;
+    text_project(alloc, text.as_slice())
 }
 
 /// The project that a text spells, if its natives are the machine's.
@@ -87,12 +82,11 @@ fn with_natives(alloc: Global, text: &[u8], project: Project) -> Result<Project,
     ensures inside { IfOk result InsideProject }
     ensures why { IfErr result (NoTextProject text.now) }
 {
-    match first_unknown(alloc, project.node.natives.as_slice()) {
-        Ok(None) => Ok(project),
-        Ok(Some(others)) => Err(Status::BadProject {
+    match first_unknown(alloc, project.node.natives.as_slice())? {
+        None => Ok(project),
+        Some(others) => Err(Status::BadProject {
             line: line_of(text, &project, others),
         }),
-        Err(Mem) => Err(Status::Memory),
     }
 }
 

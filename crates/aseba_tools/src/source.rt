@@ -11,7 +11,6 @@ ghost use Rattle.aseba_tools.specs.Meant.{RanText};
 
 use crate::file::{MOST_TEXT, read_file};
 use crate::project::named_project;
-use crate::putting::Unwritten;
 use crate::sim::simulate;
 use crate::status::Status;
 use aseba_compile::{Refusal, compile};
@@ -77,8 +76,7 @@ fn run_text<S: Sink>(
     match compile(alloc, text, project) {
         Ok(program) => match simulate(alloc, project, &program, ticks, out) {
             Ok(()) => Status::Done,
-            Err(Unwritten::WriteFault) => Status::WriteFault,
-            Err(Unwritten::Mem) => Status::Memory,
+            Err(unwritten) => Status::from(unwritten),
         },
         Err(Refusal::Mem) => Status::Memory,
         Err(refusal) => Status::Refused(refusal),

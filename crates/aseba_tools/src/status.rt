@@ -1,6 +1,7 @@
 ghost use Rattle.std.specs.Prelude.{◌≡◌};
 ghost use Rattle.aseba_tools.specs.StatusText.{number_of};
 
+use crate::putting::Unwritten;
 use aseba_compile::Refusal;
 use aseba_words::{Mem, Name};
 
@@ -44,6 +45,20 @@ impl From<Mem> for Status {
 
     fn from(_error: Mem) -> Status {
         Status::Memory
+    }
+}
+
+impl From<Unwritten> for Status {
+    ghost use Rattle.std.specs.Prelude.{◌≡◌};
+    ghost use Rattle.aseba_tools.specs.Unwritten.{status_of};
+
+    ghost from_gives = { λ unwritten status. status ≡ status_of unwritten };
+
+    fn from(unwritten: Unwritten) -> Status {
+        match unwritten {
+            Unwritten::WriteFault => Status::WriteFault,
+            Unwritten::Mem => Status::Memory,
+        }
     }
 }
 

@@ -2,14 +2,15 @@ use Rattle.std.proofs.Common.{sym, ◌∙◌, arith, [], ◌∷◌, codes, strin
 use Rattle.aseba_tools.proofs.CommandLemmas.{same_text, are_words, are_sim, are_no_sim}
 use Rattle.aseba_tools.proofs.command.sim_command.Goals as goal
 
-pub returns-in-Some : goal.returns-in-Some
-returns-in-Some c =
+pub returns : goal.returns
+returns c =
     let tool = sym c.as_str.ensures.value ∙ same_text _ _ c.if-ne.ensures in
     let words = are_words c.args.words.now _ _ _ _ (omega arith) c.tool-item.is c.project-item.is c.source-item.is c.ticks-item.is tool in
-    are_sim _ _ _ _ _ (words ∙ (λ i. codes "sim" ∷ sym c.as_str-in-Some.ensures.value i ∷ sym c.as_str-in-Some-2.ensures.value i ∷ sym c.as_str-2.ensures.value i ∷ [])) c.in-Some.ensures
+    are_sim _ _ _ _ _ (words ∙ (λ i. codes "sim" ∷ sym c.as_str-3.ensures.value i ∷ sym c.as_str-4.ensures.value i ∷ sym c.as_str-2.ensures.value i ∷ [])) c.in_ok-ticks.ensures
 
-pub returns-in-None : goal.returns-in-None
-returns-in-None c =
+pub returns-in_err-ticks : goal.returns-in_err-ticks
+returns-in_err-ticks c =
     let tool = sym c.as_str.ensures.value ∙ same_text _ _ c.if-ne.ensures in
     let words = are_words c.args.words.now _ _ _ _ (omega arith) c.tool-item.is c.project-item.is c.source-item.is c.ticks-item.is tool in
-    are_no_sim _ _ _ _ (words ∙ (λ i. codes "sim" ∷ string_bytes c.project-item.result ∷ string_bytes c.source-item.result ∷ sym c.as_str-2.ensures.value i ∷ [])) c.in-None.ensures
+    rw c.from_residual.ensures
+    (are_no_sim _ _ _ _ (words ∙ (λ i. codes "sim" ∷ string_bytes c.project-item.result ∷ string_bytes c.source-item.result ∷ sym c.as_str-2.ensures.value i ∷ [])) c.in_err-ticks.ensures)
