@@ -1,12 +1,12 @@
 pub mod Alike
 pub mod CommandLemmas
+pub mod InRun
 pub mod Loading
 pub mod Nodes
 pub mod Outputs
 pub mod Pages
 pub mod Projects
-pub mod Running
-pub mod Simulated
+pub mod RunParts
 pub mod Streams
 pub mod Variables
 pub mod Writing

@@ -2,13 +2,13 @@ pub mod Command
 pub mod DumpText
 pub mod Dumped
 pub mod FileText
-pub mod Ended
 pub mod Meant
 pub mod Node
 pub mod Outcome
 pub mod Page
 pub mod ProjectWord
 pub mod SimText
+pub mod Simulated
 pub mod StatusText
 pub mod StreamEnd
 pub mod Unwritten

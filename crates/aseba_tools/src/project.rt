@@ -85,7 +85,7 @@ fn with_natives(alloc: Global, text: &[u8], project: Project) -> Result<Project,
     match first_unknown(alloc, project.node.natives.as_slice())? {
         None => Ok(project),
         Some(others) => Err(Status::BadProject {
-            line: line_of(text, &project, others),
+            line: line_of_native(text, &project, others),
         }),
     }
 }
@@ -99,7 +99,7 @@ fn first_unknown(alloc: Global, natives: &[Native]) -> Result<Option<u64>, Mem>
 }
 
 /// The line of a native in the text of its project.
-fn line_of(text: &[u8], project: &Project, others: u64) -> u64
+fn line_of_native(text: &[u8], project: &Project, others: u64) -> u64
     requires spelled { ProjectText text.now project.now }
     requires there { others < length project.now.node.natives }
     ensures { IsNativeLine (lines text.now) others result }

@@ -1,213 +1,84 @@
-//! The run of a program's words, written line by line.
+//! `sim`: a project and a source are read, and the source is compiled and run.
 
-ghost use Rattle.std.specs.Prelude.{◌≡◌, map, ◌+◌, ◌<◌, ◌≤◌, length, ◌^◌, ◌++◌, IfOk, OnOk, OnErr, if◌then◌else◌};
-ghost use Rattle.aseba_edge.specs.Counts.{Counts};
-ghost use Rattle.aseba_edge.specs.Sink.{Took, TookFirst};
-ghost use Rattle.aseba_tree.specs.Line.{lines_text};
-ghost use Rattle.aseba_codegen.specs.Table.{is_effect, started, var_lines};
-ghost use Rattle.aseba_tools.specs.Unwritten.{is_write_fault};
-ghost use Rattle.aseba_check.specs.Places.{placed_view};
-ghost use Rattle.aseba_tools.specs.SimText.{after_tick, code_line, end_text, ending_text, layout_with, own_places, run_text, sim_text, ticks_of, told_text, IsAt};
+ghost use Rattle.std.specs.Prelude.{◌≡◌, ◌≤◌, length, option_map};
 ghost use Rattle.aseba_tree.specs.Inside.{InsideProject};
 ghost use Rattle.aseba_tree.specs.View.{project_view};
+ghost use Rattle.aseba_edge.specs.Counts.{Counts};
+ghost use Rattle.aseba_tools.specs.FileText.{most_text};
+ghost use Rattle.aseba_tools.specs.Simulated.{RanSource, Simulated};
+ghost use Rattle.aseba_tools.specs.Outcome.{is_read_fault, is_write_fault};
+ghost use Rattle.aseba_tools.specs.Meant.{RanText};
 
-use crate::lines::{Moment, end_line, notice_line, var_line, words_line};
-use crate::node;
-use crate::putting::{Unwritten, put_text};
-use aseba_check::Placed;
-use aseba_compile::Program;
-use aseba_edge::Sink;
+use crate::file::{MOST_TEXT, read_file};
+use crate::project::named_project;
+use crate::running::simulate;
+use crate::status::Status;
+use aseba_compile::{Refusal, compile};
+use aseba_edge::{Files, Sink};
 use aseba_tree::Project;
-use aseba_vm::{Machine, Tick};
-use aseba_words::Mem;
 use std::alloc::Global;
 
-/// How many effects a tick is, where the variables have so many cells: a store behind them is none.
-fn effects_of(cells: u64, tick: Tick) -> u64
-    ensures { result ≡ (if is_effect cells tick then 1 else 0) }
-{
-    match tick {
-        Tick::Stored { address } => u64::from(u64::from(address) < cells),
-        Tick::Effect | Tick::Sent(_) => 1,
-        Tick::Idle | Tick::Paused | Tick::Quiet => 0,
-    }
-}
-
-/// Does one tick and writes its line, if it has one.
-fn tick<S: Sink>(
+/// Runs a source for so many ticks on the node of the project that a word names, and writes what it
+/// tells.
+pub fn sim<F: Files, S: Sink>(
     alloc: Global,
-    machine: &mut Machine,
-    project: &Project,
-    program: &Program,
-    moment: Moment,
+    project: &str,
+    source: &str,
+    ticks: u32,
+    files: &mut F,
     out: &mut S,
-) -> Result<Moment, Unwritten>
-    requires ticks { moment.ticks < 2 ^ 63 }
-    requires effects { moment.effects < 2 ^ 63 }
-    ensures next { IfOk result (λ next. IsAt (after_tick (project_view project.now) (layout_with (project_view project.now) program.now) moment machine.old) next machine.new) }
-    ensures whole { OnOk result (Took (S.taken out.old) (told_text program.now.image.lines (after_tick (project_view project.now) (layout_with (project_view project.now) program.now) moment machine.old).lines) (S.taken out.new)) }
-    ensures part { OnErr result (TookFirst (S.taken out.old) (told_text program.now.image.lines (after_tick (project_view project.now) (layout_with (project_view project.now) program.now) moment machine.old).lines) (S.taken out.new)) }
-    ensures count { Counts (is_write_fault result) (S.faults out.old) (S.faults out.new) }
+) -> Status
+    ensures simulated { Simulated project.now source.now (λ name. option_map (λ files. files name) (F.contents files.old)) ticks (S.taken out.old) (S.taken out.new) result }
+    ensures read_fault { Counts (is_read_fault result) (F.faults files.old) (F.faults files.new) }
+    ensures write_fault { Counts (is_write_fault result) (S.faults out.old) (S.faults out.new) }
+    ensures files { F.contents files.new ≡ F.contents files.old }
 {
-    let answer = machine.tick();
-    let cells = u64::from(program.image.temp_start);
-    let effects = moment.effects + effects_of(cells, answer);
-    if let Tick::Sent(notice) = answer {
-        let now = Moment {
-            ticks: moment.ticks,
-            effects,
-        };
-        let lines = program.image.lines.as_slice();
-        let line = notice_line(alloc, project, lines, now, notice, machine.cells())?;
-        put_text(out, &line)?;
+    match named_project(alloc, project, files) {
+        Ok(project) => run_source(alloc, &project, source, ticks, files, out),
+        Err(status) => status,
     }
-    Ok(Moment {
-        ticks: moment.ticks + 1,
-        effects,
-    })
 }
 
-/// Does ticks from the first on, and writes their lines.
-#[tactic(auto, using(crate::proofs::Writing::put_steps))]
-fn run_ticks<S: Sink>(
+/// Runs a source for so many ticks on a project's node.
+fn run_source<F: Files, S: Sink>(
     alloc: Global,
-    machine: &mut Machine,
     project: &Project,
-    program: &Program,
+    source: &str,
+    ticks: u32,
+    files: &mut F,
+    out: &mut S,
+) -> Status
+    requires { InsideProject project.now }
+    ensures ran { RanSource (project_view project.now) source.now (option_map (λ files. files source.now) (F.contents files.old)) ticks (S.taken out.old) (S.taken out.new) result }
+    ensures read_fault { Counts (is_read_fault result) (F.faults files.old) (F.faults files.new) }
+    ensures write_fault { Counts (is_write_fault result) (S.faults out.old) (S.faults out.new) }
+    ensures files { F.contents files.new ≡ F.contents files.old }
+{
+    match read_file(alloc, source, MOST_TEXT, files) {
+        Ok(text) => run_text(alloc, project, text.as_slice(), ticks, out),
+        Err(unread) => unread,
+    }
+}
+
+/// Runs the text of a source.
+fn run_text<S: Sink>(
+    alloc: Global,
+    project: &Project,
+    text: &[u8],
     ticks: u32,
     out: &mut S,
-) -> Result<Moment, Unwritten>
-    ensures end { IfOk result (λ end. IsAt (ticks_of (project_view project.now) (layout_with (project_view project.now) program.now) ticks machine.old) end machine.new) }
-    ensures whole { OnOk result (Took (S.taken out.old) (told_text program.now.image.lines (ticks_of (project_view project.now) (layout_with (project_view project.now) program.now) ticks machine.old).lines) (S.taken out.new)) }
-    ensures part { OnErr result (TookFirst (S.taken out.old) (told_text program.now.image.lines (ticks_of (project_view project.now) (layout_with (project_view project.now) program.now) ticks machine.old).lines) (S.taken out.new)) }
-    ensures count { Counts (is_write_fault result) (S.faults out.old) (S.faults out.new) }
-{
-    let mut moment = Moment {
-        ticks: 0,
-        effects: 0,
-    };
-    for _tick in 0..ticks {
-        moment = tick(alloc, machine, project, program, moment, out)?;
-    }
-    Ok(moment)
-}
-
-/// Writes the lines of the variables.
-fn put_variables<S: Sink>(
-    alloc: Global,
-    variables: &[Placed],
-    cells: &[i16],
-    out: &mut S,
-) -> Result<(), Unwritten>
-    ensures whole { OnOk result (Took (S.taken out.old) (lines_text (var_lines cells.now (map placed_view variables.now))) (S.taken out.new)) }
-    ensures part { OnErr result (TookFirst (S.taken out.old) (lines_text (var_lines cells.now (map placed_view variables.now))) (S.taken out.new)) }
-    ensures count { Counts (is_write_fault result) (S.faults out.old) (S.faults out.new) }
-{
-    for variable in variables {
-        let line = var_line(alloc, variable, cells)?;
-        put_text(out, &line)?;
-    }
-    Ok(())
-}
-
-/// Writes the lines of the variables and the last line.
-fn put_ending<S: Sink>(
-    alloc: Global,
-    variables: &[Placed],
-    cells: &[i16],
-    end: Moment,
-    out: &mut S,
-) -> Result<(), Unwritten>
-    ensures whole { OnOk result (Took (S.taken out.old) (ending_text variables.now cells.now end) (S.taken out.new)) }
-    ensures part { OnErr result (TookFirst (S.taken out.old) (ending_text variables.now cells.now end) (S.taken out.new)) }
-    ensures count { Counts (is_write_fault result) (S.faults out.old) (S.faults out.new) }
-{
-    put_variables(alloc, variables, cells, out)?;
-    put_end(alloc, end, out)
-}
-
-/// Writes the last line.
-#[tactic(auto, using(crate::proofs::Writing::put_steps))]
-fn put_end<S: Sink>(alloc: Global, end: Moment, out: &mut S) -> Result<(), Unwritten>
-    ensures whole { OnOk result (Took (S.taken out.old) (end_text end) (S.taken out.new)) }
-    ensures part { OnErr result (TookFirst (S.taken out.old) (end_text end) (S.taken out.new)) }
-    ensures count { Counts (is_write_fault result) (S.faults out.old) (S.faults out.new) }
-{
-    let line = end_line(alloc, end)?;
-    put_text(out, &line)
-}
-
-/// Writes the line of the words.
-#[tactic(auto, using(crate::proofs::Writing::put_steps))]
-fn put_code<S: Sink>(alloc: Global, words: &[u16], out: &mut S) -> Result<(), Unwritten>
-    ensures whole { OnOk result (Took (S.taken out.old) (code_line words.now) (S.taken out.new)) }
-    ensures part { OnErr result (TookFirst (S.taken out.old) (code_line words.now) (S.taken out.new)) }
-    ensures count { Counts (is_write_fault result) (S.faults out.old) (S.faults out.new) }
-{
-    let line = words_line(alloc, words)?;
-    put_text(out, &line)
-}
-
-/// The places of the program's own variables.
-fn own_variables<'a>(project: &Project, program: &'a Program) -> &'a [Placed]
-    requires { length project.now.node.variables ≤ length program.now.places }
-    ensures { result.now ≡ own_places (project_view project.now) program.now }
-{
-    &program.places.as_slice()[project.node.variables.as_slice().len()..]
-}
-
-/// Runs a machine for so many ticks, and writes what the run tells and leaves.
-fn put_run<S: Sink>(
-    alloc: Global,
-    mut machine: Machine,
-    project: &Project,
-    program: &Program,
-    ticks: u32,
-    out: &mut S,
-) -> Result<(), Unwritten>
-    requires { length project.now.node.variables ≤ length program.now.places }
-    ensures whole { OnOk result (Took (S.taken out.old) (run_text (project_view project.now) program.now ticks machine) (S.taken out.new)) }
-    ensures part { OnErr result (TookFirst (S.taken out.old) (run_text (project_view project.now) program.now ticks machine) (S.taken out.new)) }
-    ensures count { Counts (is_write_fault result) (S.faults out.old) (S.faults out.new) }
-{
-    let end = run_ticks(alloc, &mut machine, project, program, ticks, out)?;
-    let own = own_variables(project, program);
-    put_ending(alloc, own, machine.cells(), end, out)
-}
-
-/// Runs a program's words on a project's node for so many ticks, and writes the words and what the
-/// run tells, line by line. Where it isn't written whole, what was written begins it.
-pub fn simulate<S: Sink>(
-    alloc: Global,
-    project: &Project,
-    program: &Program,
-    ticks: u32,
-    out: &mut S,
-) -> Result<(), Unwritten>
+) -> Status
     requires inside { InsideProject project.now }
-    requires fits { length program.now.image.words ≤ project.now.node.code }
-    requires places { length project.now.node.variables ≤ length program.now.places }
-    ensures whole { OnOk result (Took (S.taken out.old) (sim_text (project_view project.now) program.now ticks) (S.taken out.new)) }
-    ensures part { OnErr result (TookFirst (S.taken out.old) (sim_text (project_view project.now) program.now ticks) (S.taken out.new)) }
-    ensures count { Counts (is_write_fault result) (S.faults out.old) (S.faults out.new) }
+    requires short { length text.now ≤ most_text }
+    ensures ran { RanText (project_view project.now) text.now ticks (S.taken out.old) (S.taken out.new) result }
+    ensures write_fault { Counts (is_write_fault result) (S.faults out.old) (S.faults out.new) }
 {
-    let words = program.image.words.as_slice();
-    let machine = loaded_machine(alloc, project, words)?;
-    put_code(alloc, words, out)?;
-    put_run(alloc, machine, project, program, ticks, out)
-}
-
-/// The machine of a project's node with these words, at the beginning of their init code.
-fn loaded_machine(alloc: Global, project: &Project, words: &[u16]) -> Result<Machine, Mem>
-    requires inside { InsideProject project.now }
-    requires fits { length words.now ≤ project.now.node.code }
-    ensures { IfOk result (λ machine. machine ≡ started (project_view project.now) words.now) }
-{
-    let mut machine = Machine::new(alloc, &node::shape(project), project.id)?;
-    match machine.load(0, words) {
-        Ok(()) => {}
-        Err(_) => unreachable!(),
+    match compile(alloc, text, project) {
+        Ok(program) => match simulate(alloc, project, &program, ticks, out) {
+            Ok(()) => Status::Done,
+            Err(unwritten) => Status::from(unwritten),
+        },
+        Err(Refusal::Mem) => Status::Memory,
+        Err(refusal) => Status::Refused(refusal),
     }
-    machine.reset(false);
-    Ok(machine)
 }

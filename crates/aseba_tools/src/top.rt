@@ -2,13 +2,13 @@ ghost use Rattle.std.specs.Prelude.{◌≡◌, ◌↔◌, false, ℕ, List, None
 ghost use Rattle.aseba_edge.specs.Counts.{Counts};
 ghost use Rattle.aseba_tools.specs.Command.{IsSim, IsDump, IsNoCommand};
 ghost use Rattle.aseba_tools.specs.Dumped.{Dumped};
-ghost use Rattle.aseba_tools.specs.Ended.{Simulated};
+ghost use Rattle.aseba_tools.specs.Simulated.{Simulated};
 ghost use Rattle.aseba_tools.specs.Outcome.{MessagePut, is_read_fault, is_write_fault};
 ghost use Rattle.aseba_tools.specs.StatusText.{message_of};
 
 use crate::command::{dump_command, sim_command};
 use crate::dump::dump;
-use crate::source::sim;
+use crate::sim::sim;
 use crate::status::Status;
 use crate::telling::tell;
 use aseba_edge::{Clock, Dialer, Files, Sink};

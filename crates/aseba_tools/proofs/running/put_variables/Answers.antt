@@ -2,7 +2,7 @@ use Rattle.std.proofs.Common.{◌∙◌, subst}
 use Rattle.aseba_edge.specs.Sink.{Took, TookFirst}
 use Rattle.aseba_tools.proofs.Writing.{on_err}
 use Rattle.aseba_tools.proofs.Variables.{one_more_variable, variable_cut_short}
-use Rattle.aseba_tools.proofs.sim.put_variables.Goals as goal
+use Rattle.aseba_tools.proofs.running.put_variables.Goals as goal
 
 pub returns-in_err-put_text-clause-part : goal.returns-in_err-put_text-clause-part
 returns-in_err-put_text-clause-part g c =

@@ -1,8 +1,8 @@
 use Rattle.aseba_tree.specs.View.{project_view}
 use Rattle.std.proofs.lemmas.Result.{on_ok_weaker, on_err_weaker}
 use Rattle.aseba_tools.proofs.Writing.{on_err, cut_in_first, cut_in_second, both_taken}
-use Rattle.aseba_tools.proofs.Simulated.{run_parts, run_begins}
-use Rattle.aseba_tools.proofs.sim.put_run.Goals as goal
+use Rattle.aseba_tools.proofs.RunParts.{run_parts, run_begins}
+use Rattle.aseba_tools.proofs.running.put_run.Goals as goal
 
 pub returns-in_err-end-clause-part : goal.returns-in_err-end-clause-part
 returns-in_err-end-clause-part g c =

@@ -5,7 +5,7 @@ use Rattle.aseba_vm.specs.Loaded.{made, loaded, reset_state}
 use Rattle.aseba_codegen.specs.Table.{shape_of}
 use Rattle.aseba_tools.proofs.Loading.{never_refused, started-is}
 use Rattle.aseba_tools.proofs.Nodes.{names_inside}
-use Rattle.aseba_tools.proofs.sim.loaded_machine.Goals as goal
+use Rattle.aseba_tools.proofs.running.loaded_machine.Goals as goal
 
 pub new-requires : goal.new-requires
 new-requires c = subst NamesInside (sym c.shape.ensures) (names_inside c.args.project.now c.requires.inside)

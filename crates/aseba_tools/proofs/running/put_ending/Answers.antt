@@ -1,7 +1,7 @@
 use Rattle.std.proofs.Common.{refl}
 use Rattle.std.proofs.lemmas.Result.{on_err_weaker}
 use Rattle.aseba_tools.proofs.Writing.{cut_in_second}
-use Rattle.aseba_tools.proofs.sim.put_ending.Goals as goal
+use Rattle.aseba_tools.proofs.running.put_ending.Goals as goal
 
 pub returns-clause-part : goal.returns-clause-part
 returns-clause-part g c =

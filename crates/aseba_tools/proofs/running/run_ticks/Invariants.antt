@@ -1,8 +1,8 @@
 use Rattle.std.proofs.Common.{◌≡◌}
 use Rattle.aseba_tree.specs.View.{project_view}
 use Rattle.aseba_tools.specs.SimText.{layout_with}
-use Rattle.aseba_tools.proofs.Running.{InRun}
-use Rattle.aseba_tools.proofs.sim.run_ticks.Given as goal
+use Rattle.aseba_tools.proofs.InRun.{InRun}
+use Rattle.aseba_tools.proofs.running.run_ticks.Given as goal
 
 -- some ticks are done, their lines were written, and no put failed
 abbrev pub invariant-loop-tick : goal.invariant-loop-tick

@@ -1,7 +1,7 @@
 use Rattle.aseba_tools.proofs.Writing.{on_err}
-use Rattle.aseba_tools.proofs.Running.{one_more, cut_short}
+use Rattle.aseba_tools.proofs.InRun.{one_more, cut_short}
 use Rattle.std.proofs.Common.{◌∙◌}
-use Rattle.aseba_tools.proofs.sim.run_ticks.Goals as goal
+use Rattle.aseba_tools.proofs.running.run_ticks.Goals as goal
 
 pub returns-in_err-moment-clause-part : goal.returns-in_err-moment-clause-part
 returns-in_err-moment-clause-part g c =

@@ -2,7 +2,7 @@ use Rattle.std.proofs.Common.{subst, sym}
 use Rattle.aseba_tree.specs.View.{project_view}
 use Rattle.aseba_tools.specs.Meant.{RanText}
 use Rattle.aseba_tools.proofs.Outputs.{node_placed, wrote, ran_in_part}
-use Rattle.aseba_tools.proofs.source.run_text.Goals as goal
+use Rattle.aseba_tools.proofs.sim.run_text.Goals as goal
 
 pub simulate-requires-clause-places : goal.simulate-requires-clause-places
 simulate-requires-clause-places g c = node_placed c.args.project.now c.args.text.now c.in-Ok.program c.in-Ok.ensures.program
