@@ -40,6 +40,13 @@ pub record IsAt (run : Run) (moment : Moment) (machine : State) : Type 0 where
 abbrev pub ticks_of : Project → Layout → ℕ → State → Run
 ticks_of project layout ticks machine = all_ticking project layout [] ticks (beginning machine)
 
+-- what a tick of a program tells at a moment, and what so many ticks tell
+abbrev pub tick_text : Project → Program → Moment → State → List ℕ
+tick_text project program moment machine = told_text program.image.lines (after_tick project (layout_with project program) moment machine).lines
+
+abbrev pub ticks_text : Project → Program → ℕ → State → List ℕ
+ticks_text project program ticks machine = told_text program.image.lines (ticks_of project (layout_with project program) ticks machine).lines
+
 -- the last line
 abbrev pub end_text : Moment → List ℕ
 end_text moment = lines_text (end moment.ticks moment.effects ∷ [])

@@ -7,7 +7,7 @@ ghost use Rattle.aseba_tree.specs.Line.{lines_text};
 ghost use Rattle.aseba_codegen.specs.Table.{is_effect, started, var_lines};
 ghost use Rattle.aseba_tools.specs.Unwritten.{is_write_fault};
 ghost use Rattle.aseba_check.specs.Places.{placed_view};
-ghost use Rattle.aseba_tools.specs.SimText.{after_tick, code_line, end_text, ending_text, layout_with, own_places, run_text, sim_text, ticks_of, told_text, IsAt};
+ghost use Rattle.aseba_tools.specs.SimText.{after_tick, code_line, end_text, ending_text, layout_with, own_places, run_text, sim_text, tick_text, ticks_of, ticks_text, IsAt};
 ghost use Rattle.aseba_tree.specs.Inside.{InsideProject};
 ghost use Rattle.aseba_tree.specs.View.{project_view};
 
@@ -45,8 +45,8 @@ fn tick<S: Sink>(
     requires ticks { moment.ticks < 2 ^ 63 }
     requires effects { moment.effects < 2 ^ 63 }
     ensures next { IfOk result (λ next. IsAt (after_tick (project_view project.now) (layout_with (project_view project.now) program.now) moment machine.old) next machine.new) }
-    ensures whole { OnOk result (Took (S.taken out.old) (told_text program.now.image.lines (after_tick (project_view project.now) (layout_with (project_view project.now) program.now) moment machine.old).lines) (S.taken out.new)) }
-    ensures part { OnErr result (TookFirst (S.taken out.old) (told_text program.now.image.lines (after_tick (project_view project.now) (layout_with (project_view project.now) program.now) moment machine.old).lines) (S.taken out.new)) }
+    ensures whole { OnOk result (Took (S.taken out.old) (tick_text (project_view project.now) program.now moment machine.old) (S.taken out.new)) }
+    ensures part { OnErr result (TookFirst (S.taken out.old) (tick_text (project_view project.now) program.now moment machine.old) (S.taken out.new)) }
     ensures count { Counts (is_write_fault result) (S.faults out.old) (S.faults out.new) }
 {
     let answer = machine.tick();
@@ -78,8 +78,8 @@ fn run_ticks<S: Sink>(
     out: &mut S,
 ) -> Result<Moment, Unwritten>
     ensures end { IfOk result (λ end. IsAt (ticks_of (project_view project.now) (layout_with (project_view project.now) program.now) ticks machine.old) end machine.new) }
-    ensures whole { OnOk result (Took (S.taken out.old) (told_text program.now.image.lines (ticks_of (project_view project.now) (layout_with (project_view project.now) program.now) ticks machine.old).lines) (S.taken out.new)) }
-    ensures part { OnErr result (TookFirst (S.taken out.old) (told_text program.now.image.lines (ticks_of (project_view project.now) (layout_with (project_view project.now) program.now) ticks machine.old).lines) (S.taken out.new)) }
+    ensures whole { OnOk result (Took (S.taken out.old) (ticks_text (project_view project.now) program.now ticks machine.old) (S.taken out.new)) }
+    ensures part { OnErr result (TookFirst (S.taken out.old) (ticks_text (project_view project.now) program.now ticks machine.old) (S.taken out.new)) }
     ensures count { Counts (is_write_fault result) (S.faults out.old) (S.faults out.new) }
 {
     let mut moment = Moment {
