@@ -2,8 +2,8 @@
 //! own.
 #![tactic(auto)]
 
-use aseba_edge::{NoDialer, Sink, SystemClock, SystemFiles, WriterSink};
-use aseba_tools::{Status, run};
+use aseba_edge::{NoDialer, SystemClock, SystemFiles, WriterSink};
+use aseba_tools::{Status, run, tell};
 use std::process::ExitCode;
 use std::thread::Builder;
 use std::{env, io};
@@ -26,9 +26,9 @@ fn main(rt: HostRuntime) -> ExitCode {
 
 /// Tells that memory didn't suffice, and answers the exit status.
 fn out_of_memory(rt: &HostRuntime) -> u8 {
-    // Where this can't be written either, the status is all that can be told.
-    let _ = WriterSink::new(rt.stderr()).put(b"aseba: out of memory\n");
-    Status::Memory.number()
+    let status = Status::Memory;
+    tell(&status, &mut WriterSink::new(rt.stderr()));
+    status.number()
 }
 
 /// Runs the tools on the program's words, and answers the exit status.

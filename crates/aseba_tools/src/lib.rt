@@ -19,6 +19,7 @@ mod top;
 
 pub use aseba_compile::Refusal;
 pub use status::Status;
+pub use telling::tell;
 pub use top::{Ran, run};
 
 #[cfg(test)]
