@@ -44,19 +44,9 @@ fn given_facts(
 {
     let mut given = List::new(alloc);
     for argument in arguments.as_slice() {
-        add(&mut given, facts_of(names, argument))?;
+        given.add(facts_of(names, argument))?;
     }
     Ok(given)
-}
-
-/// Adds an element at the end.
-fn add(list: &mut List<Facts>, facts: Facts) -> Result<(), Mem>
-    ensures { OnOk result (list.new ≡ list.old ++ facts ∷ []) }
-{
-    match list.push(facts) {
-        Ok(()) => Ok(()),
-        Err(_) => Err(Mem),
-    }
 }
 
 /// The least fault in arguments.

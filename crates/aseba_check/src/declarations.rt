@@ -107,18 +107,8 @@ fn take_declaration(
     let fault = least(before, declaration_fault(names, decl, facts));
     let size = given_size(facts);
     declare(alloc, names, &decl.name, size)?;
-    add_size(sizes, size)?;
+    sizes.add(size)?;
     Ok(fault)
-}
-
-/// Adds a size at the end.
-fn add_size(sizes: &mut List<Option<u64>>, size: Option<u64>) -> Result<(), Mem>
-    ensures { OnOk result (sizes.new ≡ sizes.old ++ size ∷ []) }
-{
-    match sizes.push(size) {
-        Ok(()) => Ok(()),
-        Err(_) => Err(Mem),
-    }
 }
 
 fn size_facts(names: &Table<Meaning>, size: &Option<Expr>) -> Option<Facts>

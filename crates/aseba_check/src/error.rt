@@ -10,7 +10,7 @@ use aseba_words::Mem;
 use thiserror::Error;
 
 /// Why a source is refused in its project: the first rule in the text that it breaks; else that its
-/// variables, or its code, have no room.
+/// variables have no room, or that a subroutine begins where no call reaches it.
 #[derive(Clone, Copy, Debug, PartialEq, Eq, Error)]
 pub enum CheckError {
     /// A name that nothing gives before it, in the role in which it is used.

@@ -99,10 +99,7 @@ fn place(
         start: address(start),
         size: address(size),
     };
-    match places.push(placed) {
-        Ok(()) => Ok(()),
-        Err(_) => Err(Mem),
-    }
+    places.add(placed)
 }
 
 /// A number of cells as an address. No node has more.

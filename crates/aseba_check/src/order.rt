@@ -44,16 +44,9 @@ fn edges_of(alloc: Global, parts: &[Handler], calls: &[SubCall]) -> Result<List<
             caller: places.find(call.caller).unwrap_or(unknown),
             called: places.find(call.called).unwrap_or(unknown),
         };
-        add(&mut edges, edge)?;
+        edges.add(edge)?;
     }
     Ok(edges)
-}
-
-fn add<T: Drop>(list: &mut List<T>, value: T) -> Result<(), Mem> {
-    match list.push(value) {
-        Ok(()) => Ok(()),
-        Err(_) => Err(Mem),
-    }
 }
 
 /// The longest front of calls that has an order, found by halving.
@@ -171,7 +164,7 @@ impl Waiting {
         let mut free = List::new(alloc);
         for (node, count) in self.counts.as_slice().iter().enumerate() {
             if *count == 0 {
-                add(&mut free, node)?;
+                free.add(node)?;
             }
         }
         Ok(free)
@@ -190,7 +183,7 @@ impl Waiting {
             let Some(place) = next else {
                 break;
             };
-            add(places, place)?;
+            places.add(place)?;
             if let Some(edge) = edges.get(place) {
                 self.pass(edge.called, free)?;
             }
@@ -203,7 +196,7 @@ impl Waiting {
     fn pass(&mut self, node: usize, free: &mut List<usize>) -> Result<(), Mem> {
         let left = self.count_of(node).saturating_sub(1);
         put(&mut self.counts, node, left);
-        if left == 0 { add(free, node) } else { Ok(()) }
+        if left == 0 { free.add(node) } else { Ok(()) }
     }
 }
 

@@ -92,8 +92,5 @@ fn add_form<'a>(
 fn add<'a>(calls: &mut List<SubCall<'a>>, call: SubCall<'a>) -> Result<(), Mem>
     ensures { OnOk result (map call_view calls.new ≡ map call_view calls.old ++ call_view call.entry ∷ []) }
 {
-    match calls.push(call) {
-        Ok(()) => Ok(()),
-        Err(_) => Err(Mem),
-    }
+    calls.add(call)
 }

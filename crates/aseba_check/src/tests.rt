@@ -3,7 +3,7 @@ ghost use Rattle.std.specs.Prelude.{◌≡◌, [], ◌∷◌, None, IfOk};
 ghost use Rattle.aseba_tree.specs.Shape.{IsTree};
 ghost use Rattle.aseba_tree.specs.View.{source_view};
 
-use crate::error::{CheckError, error_of};
+use crate::error::CheckError;
 use crate::recursion::recursion_fault;
 use crate::{Checked, check};
 use aseba_tree::{Decl, Description, Handler, Pos, Project, Sized, Source, Stmt, StmtForm};

@@ -4,7 +4,7 @@ ghost use Rattle.aseba_tree.specs.Numbers.{is_large, jump_words};
 ghost use Rattle.aseba_tree.specs.View.{core_expr_view, core_target_view, project_view};
 
 use crate::coded::Coded;
-use crate::words::{add, add_condition, add_store, word_of};
+use crate::words::{add_condition, add_store, word_of};
 use aseba_tree::{CoreExpr, CoreTarget, Project};
 use aseba_words::{Binary, List, Mem};
 use std::alloc::Global;
@@ -19,7 +19,7 @@ pub fn add_words(code: &mut List<Coded>, line: u32, words: &[u16]) -> Result<(),
             line,
             is_edge: false,
         };
-        add(code, coded)?;
+        code.add(coded)?;
     }
     Ok(())
 }
@@ -29,7 +29,7 @@ pub fn add_code(code: &mut List<Coded>, more: &[Coded]) -> Result<(), Mem>
     ensures { OnOk result (code.new ≡ code.old ++ more.now) }
 {
     for coded in more {
-        add(code, *coded)?;
+        code.add(*coded)?;
     }
     Ok(())
 }
@@ -110,7 +110,7 @@ fn add_test(
         line,
         is_edge,
     };
-    add(code, branch)?;
+    code.add(branch)?;
     add_words(code, line, &[(otherwise % 65536) as u16])
 }
 

@@ -11,7 +11,6 @@ use crate::coded::Coded;
 use crate::error::GenError;
 use crate::parts::{add_body, add_handlers, add_parts, add_subs, entries_of};
 use crate::starts::{len_of, starts_from, starts_of_kinds, subs_len};
-use crate::words::add;
 use aseba_tree::{Core, Project};
 use aseba_words::{List, Mem};
 use std::alloc::Global;
@@ -53,12 +52,17 @@ fn init_start_of(alloc: Global, core: &Core, project: &Project) -> Result<u32, M
     }
 }
 
-/// The address of each part.
-fn part_starts_of(alloc: Global, core: &Core, project: &Project) -> Result<List<u32>, Mem>
-    requires { core_words (project_view project.now) (core_view core.now) ≤ 65535 }
+/// The address of each part, by that of the init code.
+fn part_starts_of(
+    alloc: Global,
+    core: &Core,
+    project: &Project,
+    init: u32,
+) -> Result<List<u32>, Mem>
+    requires small { core_words (project_view project.now) (core_view core.now) ≤ 65535 }
+    requires init { init ≡ init_start (project_view project.now) (core_view core.now) }
     ensures { IfOk result (λ starts. starts ≡ part_starts (project_view project.now) (core_view core.now)) }
 {
-    let init = init_start_of(alloc, core, project)?;
     let behind = init + len_of(alloc, project, &core.init)? + 1;
     if is_large_project(project) {
         starts_of_kinds(
@@ -117,7 +121,7 @@ fn code_of(alloc: Global, core: &Core, project: &Project) -> Result<List<Coded>,
     ensures { IfOk result (λ code. code ≡ core_code (project_view project.now) (core_view core.now)) }
 {
     let init = init_start_of(alloc, core, project)?;
-    let starts = part_starts_of(alloc, core, project)?;
+    let starts = part_starts_of(alloc, core, project, init)?;
     let mut code = List::new(alloc);
     add_table(alloc, &mut code, core, init, starts.as_slice())?;
     add_all(alloc, &mut code, core, project, starts.as_slice())?;
@@ -130,7 +134,7 @@ fn words_of(alloc: Global, code: &[Coded]) -> Result<List<u16>, Mem>
 {
     let mut words = List::new(alloc);
     for coded in code {
-        add(&mut words, coded.word)?;
+        words.add(coded.word)?;
     }
     Ok(words)
 }
@@ -141,7 +145,7 @@ fn lines_of(alloc: Global, code: &[Coded]) -> Result<List<u32>, Mem>
 {
     let mut lines = List::new(alloc);
     for coded in code {
-        add(&mut lines, coded.line)?;
+        lines.add(coded.line)?;
     }
     Ok(lines)
 }

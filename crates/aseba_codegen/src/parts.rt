@@ -5,8 +5,7 @@ ghost use Rattle.aseba_tree.specs.View.{core_stmts_view, core_part_view, project
 
 use crate::code::{add_code, add_words};
 use crate::coded::Coded;
-use crate::statements::{end_word, list_of, start_of};
-use crate::words::add;
+use crate::statements::{end_word, list_of};
 use aseba_tree::{CorePart, CoreStmt, Project};
 use aseba_words::{List, Mem};
 use std::alloc::Global;
@@ -105,8 +104,8 @@ pub fn entries_of(alloc: Global, starts: &[u32], parts: &[CorePart]) -> Result<L
                 Some(start) => *start,
                 None => 0,
             };
-            add(&mut entries, event)?;
-            add(&mut entries, (start % 65536) as u16)?;
+            entries.add(event)?;
+            entries.add((start % 65536) as u16)?;
         }
     }
     Ok(entries)

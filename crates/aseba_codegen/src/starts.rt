@@ -4,7 +4,6 @@ ghost use Rattle.aseba_tree.specs.CoreNumbers.{core_list_words, core_part_words,
 ghost use Rattle.aseba_tree.specs.View.{core_stmts_view, core_part_view, project_view};
 
 use crate::statements::list_of;
-use crate::words::add;
 use aseba_tree::{CorePart, CoreStmt, Project};
 use aseba_words::{List, Mem};
 use std::alloc::Global;
@@ -40,7 +39,7 @@ pub fn starts_from(
     let mut starts = List::new(alloc);
     let mut at = first;
     for part in parts {
-        add(&mut starts, at)?;
+        starts.add(at)?;
         at += part_len(alloc, project, part)?;
     }
     Ok(starts)
@@ -64,10 +63,10 @@ pub fn starts_of_kinds(
     for part in parts {
         let len = part_len(alloc, project, part)?;
         if part.event.is_some() {
-            add(&mut starts, handler)?;
+            starts.add(handler)?;
             handler += len;
         } else {
-            add(&mut starts, sub)?;
+            starts.add(sub)?;
             sub += len;
         }
     }
@@ -81,9 +80,8 @@ pub fn subs_len(alloc: Global, project: &Project, parts: &[CorePart]) -> Result<
 {
     let mut len = 0;
     for part in parts {
-        let more = part_len(alloc, project, part)?;
         if part.event.is_none() {
-            len += more;
+            len += part_len(alloc, project, part)?;
         }
     }
     Ok(len)

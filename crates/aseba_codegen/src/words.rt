@@ -7,16 +7,6 @@ ghost use Rattle.aseba_tree.specs.CoreNumbers.{param_count};
 use aseba_tree::{CoreExpr, CoreTarget, Project};
 use aseba_words::{Binary, List, Mem};
 
-/// Adds an element at the end.
-pub fn add<T: Drop>(list: &mut List<T>, value: T) -> Result<(), Mem>
-    ensures { OnOk result (list.new ≡ list.old ++ value ∷ []) }
-{
-    match list.push(value) {
-        Ok(()) => Ok(()),
-        Err(_) => Err(Mem),
-    }
-}
-
 /// The word of an instruction, whose high four bits are its number.
 pub fn word_of(number: u16, low: u16) -> u16
     requires { number < 16 }
@@ -29,8 +19,8 @@ pub fn word_of(number: u16, low: u16) -> u16
 pub fn add_large(words: &mut List<u16>, bits: u16) -> Result<(), Mem>
     ensures { OnOk result (words.new ≡ words.old ++ instruction 2 0 ∷ bits ∷ []) }
 {
-    add(words, word_of(2, 0))?;
-    add(words, bits)
+    words.add(word_of(2, 0))?;
+    words.add(bits)
 }
 
 /// Whether a number fits the low bits of a word.
@@ -68,7 +58,7 @@ pub fn add_number(words: &mut List<u16>, value: i16) -> Result<(), Mem>
     ensures { OnOk result (words.new ≡ words.old ++ number_code value) }
 {
     if is_small(value) {
-        add(words, word_of(1, in_twelve_bits(value)))
+        words.add(word_of(1, in_twelve_bits(value)))
     } else {
         add_large(words, in_sixteen_bits(value))
     }
@@ -80,20 +70,20 @@ pub fn add_expr(words: &mut List<u16>, expr: &CoreExpr) -> Result<(), Mem>
 {
     match expr {
         CoreExpr::Number(value) => add_number(words, *value),
-        CoreExpr::Cell(address) => add(words, word_of(3, *address)),
+        CoreExpr::Cell(address) => words.add(word_of(3, *address)),
         CoreExpr::Indirect(base, size, index) => {
             add_expr(words, index.get())?;
-            add(words, word_of(5, *base))?;
-            add(words, *size)
+            words.add(word_of(5, *base))?;
+            words.add(*size)
         }
         CoreExpr::One(op, operand) => {
             add_expr(words, operand.get())?;
-            add(words, word_of(7, op.code()))
+            words.add(word_of(7, op.code()))
         }
         CoreExpr::Two(op, left, right) => {
             add_expr(words, left.get())?;
             add_expr(words, right.get())?;
-            add(words, word_of(8, op.code()))
+            words.add(word_of(8, op.code()))
         }
     }
 }
@@ -148,11 +138,11 @@ pub fn add_store(words: &mut List<u16>, target: &CoreTarget, value: &CoreExpr) -
 {
     add_expr(words, value)?;
     match target {
-        CoreTarget::Cell(address) => add(words, word_of(4, *address)),
+        CoreTarget::Cell(address) => words.add(word_of(4, *address)),
         CoreTarget::Indirect(base, size, index) => {
             add_expr(words, index)?;
-            add(words, word_of(6, *base))?;
-            add(words, *size)
+            words.add(word_of(6, *base))?;
+            words.add(*size)
         }
     }
 }
@@ -174,7 +164,7 @@ fn add_length(words: &mut List<u16>, length: u16) -> Result<(), Mem>
     if length > 2047 {
         add_large(words, length)
     } else {
-        add(words, word_of(1, length))
+        words.add(word_of(1, length))
     }
 }
 
@@ -211,5 +201,5 @@ pub fn add_call(
     let (addresses, lengths) = values.split_at(count);
     add_addresses(words, addresses)?;
     add_lengths(words, lengths)?;
-    add(words, word_of(12, native))
+    words.add(word_of(12, native))
 }

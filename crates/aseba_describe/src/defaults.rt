@@ -3,7 +3,6 @@ ghost use Rattle.std.specs.Prelude.{◌≡◌, [], ◌∷◌, ◌++◌, IfOk, On
 ghost use Rattle.aseba_describe.specs.Defaults as spec;
 ghost use Rattle.aseba_describe.specs.Grammar.{ProjectText};
 
-use crate::lists::add;
 use aseba_tree::{Description, Native, Param, Project, Sized};
 use aseba_words::{List, Mem, Name};
 use std::alloc::Global;
@@ -128,7 +127,7 @@ fn add_sized(alloc: Global, list: &mut List<Sized>, name: &[u8], size: u16) -> R
     ensures { OnOk result (list.new ≡ list.old ++ spec.sized name.now size ∷ []) }
 {
     let name = Name::new(alloc, name)?;
-    add(list, Sized { name, size })
+    list.add(Sized { name, size })
 }
 
 /// Adds a native with parameters given by size and name: -1 for as many cells as the call says, 1 for
@@ -145,7 +144,7 @@ fn add_native(
     let name = Name::new(alloc, name)?;
     let text = Name::new(alloc, text)?;
     let params = params_of(alloc, params)?;
-    add(natives, Native { name, text, params })
+    natives.add(Native { name, text, params })
 }
 
 fn params_of(alloc: Global, params: &[(i16, &[u8])]) -> Result<List<Param>, Mem>
@@ -154,7 +153,7 @@ fn params_of(alloc: Global, params: &[(i16, &[u8])]) -> Result<List<Param>, Mem>
     let mut list = List::new(alloc);
     for (size, name) in params {
         let name = Name::new(alloc, name)?;
-        add(&mut list, Param { size: *size, name })?;
+        list.add(Param { size: *size, name })?;
     }
     Ok(list)
 }

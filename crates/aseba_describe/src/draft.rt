@@ -6,7 +6,6 @@ use crate::entry::Entry;
 use crate::fault::LineFault;
 use crate::kind::Kind;
 use crate::known::Known;
-use crate::lists::add;
 use aseba_tree::{Const, Description, Local, Native, Project, Sized};
 use aseba_words::{List, Mem, Name};
 use std::alloc::Global;
@@ -153,7 +152,7 @@ impl Draft {
         self.cell_names.add(variable.name.copy(alloc)?)?;
         self.next = Kind::Variable;
         self.left -= variable.size;
-        add(&mut self.variables, variable)?;
+        self.variables.add(variable)?;
         Ok(())
     }
 
@@ -166,7 +165,7 @@ impl Draft {
         }
         self.event_names.add(local.name.copy(alloc)?)?;
         self.next = Kind::Local;
-        add(&mut self.locals, local)?;
+        self.locals.add(local)?;
         Ok(())
     }
 
@@ -179,7 +178,7 @@ impl Draft {
         }
         self.native_names.add(native.name.copy(alloc)?)?;
         self.next = Kind::Native;
-        add(&mut self.natives, native)?;
+        self.natives.add(native)?;
         Ok(())
     }
 
@@ -192,7 +191,7 @@ impl Draft {
         }
         self.event_names.add(event.name.copy(alloc)?)?;
         self.next = Kind::Event;
-        add(&mut self.events, event)?;
+        self.events.add(event)?;
         Ok(())
     }
 
@@ -205,7 +204,7 @@ impl Draft {
         }
         self.cell_names.add(constant.name.copy(alloc)?)?;
         self.next = Kind::Const;
-        add(&mut self.consts, constant)?;
+        self.consts.add(constant)?;
         Ok(())
     }
 }

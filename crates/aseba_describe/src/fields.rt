@@ -5,7 +5,6 @@ ghost use Rattle.aseba_describe.specs.Reading as spec;
 
 use crate::entry::Entry;
 use crate::fault::LineFault;
-use crate::lists::add;
 use crate::names::{is_name, is_text};
 use aseba_tree::{Const, Local, Native, Param, Sized};
 use aseba_words::{List, Name};
@@ -175,7 +174,7 @@ fn params(alloc: Global, fields: &[u8]) -> Result<(List<Param>, &[u8]), LineFaul
         let (param, behind) = next(alloc, room, rest)?;
         match param {
             None => return Ok((params, behind)),
-            Some(param) => add(&mut params, param)?,
+            Some(param) => params.add(param)?,
         }
         rest = behind;
     }

@@ -9,7 +9,6 @@ mod fields;
 mod finding;
 mod kind;
 mod known;
-mod lists;
 mod names;
 mod plain;
 mod reading;

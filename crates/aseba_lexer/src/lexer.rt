@@ -77,10 +77,10 @@ fn word(alloc: Global, tokens: &mut List<Token>, at: Pos, text: &[u8]) -> Result
 {
     let length = 1 + word_rest(&text[1..]);
     match kind_of_word(alloc, &text[..length])? {
-        Some(kind) => match tokens.push(Token { at, kind }) {
-            Ok(()) => Ok(length),
-            Err(_) => Err(LexError::Mem),
-        },
+        Some(kind) => {
+            tokens.add(Token { at, kind })?;
+            Ok(length)
+        }
         None => Err(LexError::BadNumber { at }),
     }
 }
@@ -93,10 +93,8 @@ fn sign(tokens: &mut List<Token>, at: Pos, text: &[u8]) -> Result<usize, LexErro
     match sign_at(text) {
         Some(found) => {
             let kind = TokenKind::Sign(found.sign);
-            match tokens.push(Token { at, kind }) {
-                Ok(()) => Ok(found.len),
-                Err(_) => Err(LexError::Mem),
-            }
+            tokens.add(Token { at, kind })?;
+            Ok(found.len)
         }
         None => Err(LexError::BadByte { at }),
     }

@@ -7,8 +7,6 @@ pub fn with<T: Drop>(list: List<T>, value: T) -> Result<List<T>, Mem>
     ensures { IfOk result (λ more. more ≡ list ++ value ∷ []) }
 {
     let mut more = list;
-    match more.push(value) {
-        Ok(()) => Ok(more),
-        Err(_) => Err(Mem),
-    }
+    more.add(value)?;
+    Ok(more)
 }

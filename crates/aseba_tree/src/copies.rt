@@ -1,4 +1,4 @@
-ghost use Rattle.std.specs.Prelude.{◌≡◌, [], ◌∷◌, ◌++◌, IfOk, OnOk};
+ghost use Rattle.std.specs.Prelude.{◌≡◌, IfOk};
 
 use aseba_words::{List, Mem};
 use std::alloc::Global;
@@ -15,17 +15,7 @@ pub fn copies<T: Drop, F: Fn(&T) -> Result<T, Mem>>(
 {
     let mut copied = List::new(alloc);
     for item in items.as_slice() {
-        add(&mut copied, copy(item)?)?;
+        copied.add(copy(item)?)?;
     }
     Ok(copied)
-}
-
-/// Adds an element at the end.
-pub fn add<T: Drop>(list: &mut List<T>, value: T) -> Result<(), Mem>
-    ensures { OnOk result (list.new ≡ list.old ++ value ∷ []) }
-{
-    match list.push(value) {
-        Ok(()) => Ok(()),
-        Err(_) => Err(Mem),
-    }
 }

@@ -1,6 +1,6 @@
 ghost use Rattle.std.specs.Prelude.{◌≡◌, IfOk};
 
-use crate::copies::{add, copies};
+use crate::copies::copies;
 use aseba_words::{Binary, List, Mem, Unary};
 use sqlite_items::Boxed;
 use std::alloc::Global;
@@ -162,7 +162,7 @@ fn copy_body(body: &List<CoreStmt>, alloc: Global) -> Result<List<CoreStmt>, Mem
 {
     let mut copied = List::new(alloc);
     for stmt in body.as_slice() {
-        add(&mut copied, stmt.copy(alloc)?)?;
+        copied.add(stmt.copy(alloc)?)?;
     }
     Ok(copied)
 }

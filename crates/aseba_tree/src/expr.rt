@@ -1,6 +1,5 @@
 ghost use Rattle.std.specs.Prelude.{◌≡◌, IfOk};
 
-use crate::copies::add;
 use crate::pos::Pos;
 use aseba_words::{Binary, List, Mem, Name, Unary};
 use sqlite_items::Boxed;
@@ -72,7 +71,7 @@ impl Form {
             Form::Items(items) => {
                 let mut copied = List::new(alloc);
                 for item in items.as_slice() {
-                    add(&mut copied, item.copy(alloc)?)?;
+                    copied.add(item.copy(alloc)?)?;
                 }
                 Ok(Form::Items(copied))
             }

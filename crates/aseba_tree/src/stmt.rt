@@ -1,6 +1,6 @@
 ghost use Rattle.std.specs.Prelude.{◌≡◌, IfOk};
 
-use crate::copies::{add, copies};
+use crate::copies::copies;
 use crate::expr::{Expr, copy_boxed, copy_maybe};
 use crate::pos::Pos;
 use aseba_words::{Binary, List, Mem, Name};
@@ -194,7 +194,7 @@ fn copy_body(body: &List<Stmt>, alloc: Global) -> Result<List<Stmt>, Mem>
 {
     let mut copied = List::new(alloc);
     for stmt in body.as_slice() {
-        add(&mut copied, stmt.copy(alloc)?)?;
+        copied.add(stmt.copy(alloc)?)?;
     }
     Ok(copied)
 }

@@ -67,6 +67,19 @@ impl<T> List<T> {
     }
 }
 
+impl<T: Drop> List<T> {
+    /// Adds an element at the end. For want of memory it is dropped.
+    pub fn add(&mut self, value: T) -> Result<(), Mem>
+        ensures ok { OnOk result (self.new ≡ self.old ++ value ∷ []) }
+        ensures unchanged { OnErr result (self.new ≡ self.old) }
+    {
+        match self.push(value) {
+            Ok(()) => Ok(()),
+            Err(_) => Err(Mem),
+        }
+    }
+}
+
 impl<T: Copy> List<T> {
     /// A list of a slice's elements.
     pub fn from_slice(alloc: Global, items: &[T]) -> Result<List<T>, Mem>

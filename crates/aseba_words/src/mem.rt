@@ -1,8 +1,7 @@
 use std::alloc::{AllocError, AllocFailed};
 use thiserror::Error;
 
-/// Want of memory. Every call that takes memory may answer it. A count that passes 64 bits is
-/// answered so too.
+/// Want of memory. Every call that takes memory may answer it.
 #[derive(Clone, Copy, Debug, PartialEq, Eq, Error)]
 #[error("out of memory")]
 pub struct Mem;

@@ -100,10 +100,11 @@ fn goes_to_a_thread<T: Send + Sync>(_value: &T) {}
 fn a_list_keeps_what_was_pushed(rt: HostRuntime) -> Result<(), Fail> {
     let mut list = List::from_slice(rt.alloc(), &[1u16, 2])?;
     assert!(rt; list.push(3).is_ok());
-    assert_eq!(rt; list.as_slice(), [1, 2, 3].as_slice());
+    list.add(4)?;
+    assert_eq!(rt; list.as_slice(), [1, 2, 3, 4].as_slice());
     goes_to_a_thread(&list);
     let vector = list.into_vec();
-    assert_eq!(rt; List::from_vec(vector).as_slice().len(), 3);
+    assert_eq!(rt; List::from_vec(vector).as_slice().len(), 4);
     Ok(())
 }
 

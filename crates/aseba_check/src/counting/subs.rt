@@ -40,6 +40,18 @@ pub fn sub_depths(
 /// The places of subroutines among the parts, each behind those that it calls, where calls close no
 /// cycle. Nothing is promised of it: who takes it tests it.
 fn callees_first(alloc: Global, parts: &[Handler]) -> Result<List<usize>, Mem> {
+    let by_rank = places_by_rank(alloc, parts)?;
+    let mut places = List::new(alloc);
+    for place in by_rank.as_slice() {
+        if let Some(place) = place {
+            places.add(*place)?;
+        }
+    }
+    Ok(places)
+}
+
+/// The place of the subroutine of each rank, where there is one.
+fn places_by_rank(alloc: Global, parts: &[Handler]) -> Result<Vec<Option<usize>>, Mem> {
     let calls = sub_calls(alloc, parts)?;
     let order = order_of(alloc, parts, calls.as_slice())?;
     let mut by_rank = vec![in alloc; None; parts.len() + 2]?;
@@ -48,25 +60,12 @@ fn callees_first(alloc: Global, parts: &[Handler]) -> Result<List<usize>, Mem> {
             put(&mut by_rank, order.ranks.find(&part.name), place);
         }
     }
-    let mut places = List::new(alloc);
-    for place in by_rank.as_slice() {
-        if let Some(place) = place {
-            add(&mut places, *place)?;
-        }
-    }
-    Ok(places)
+    Ok(by_rank)
 }
 
 fn put(by_rank: &mut Vec<Option<usize>>, rank: Option<usize>, place: usize) {
     if let Some(slot) = by_rank.get_mut(rank.unwrap_or(0)) {
         *slot = Some(place);
-    }
-}
-
-fn add(places: &mut List<usize>, place: usize) -> Result<(), Mem> {
-    match places.push(place) {
-        Ok(()) => Ok(()),
-        Err(_) => Err(Mem),
     }
 }
 

@@ -70,10 +70,7 @@ fn core_stmt(alloc: Global, events: &Events, names: &Names, stmt: &Stmt) -> Resu
 fn add(built: &mut List<CoreStmt>, stmt: CoreStmt) -> Result<(), Mem>
     ensures { OnOk result (map core_stmt_view built.new ≡ map core_stmt_view built.old ++ core_stmt_view stmt ∷ []) }
 {
-    match built.push(stmt) {
-        Ok(()) => Ok(()),
-        Err(_) => Err(Mem),
-    }
+    built.add(stmt)
 }
 
 /// Adds the store of a declared value.

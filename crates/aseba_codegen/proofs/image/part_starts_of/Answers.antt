@@ -6,12 +6,12 @@ use Rattle.aseba_codegen.proofs.Lengths.{starts-few}
 use Rattle.aseba_codegen.proofs.image.part_starts_of.Goals as goal
 
 pub overflow_add-behind : goal.overflow_add-behind
-overflow_add-behind c = omega (arith, c.in_ok-init.ensures, c.in_ok-behind.ensures, starts-few (project_view c.args.project.now) (core_view c.args.core.now) 65535 c.requires)
+overflow_add-behind c = omega (arith, c.requires.init, c.in_ok-behind.ensures, starts-few (project_view c.args.project.now) (core_view c.args.core.now) 65535 c.requires.small)
 
 pub overflow_add-behind-2 : goal.overflow_add-behind-2
-overflow_add-behind-2 c = omega (arith, c.in_ok-init.ensures, c.in_ok-behind.ensures, starts-few (project_view c.args.project.now) (core_view c.args.core.now) 65535 c.requires)
+overflow_add-behind-2 c = omega (arith, c.requires.init, c.in_ok-behind.ensures, starts-few (project_view c.args.project.now) (core_view c.args.core.now) 65535 c.requires.small)
 
 pub starts_of_kinds-requires-clause-sum : goal.starts_of_kinds-requires-clause-sum
 starts_of_kinds-requires-clause-sum c =
     let all = ap (λ ps. sum_by (core_part_words (project_view c.args.project.now)) (map core_part_view ps)) c.as_slice.ensures in
-    omega (arith, all, c.table_len.ensures, c.in_ok-init.ensures, c.in_ok-behind.ensures, starts-few (project_view c.args.project.now) (core_view c.args.core.now) 65535 c.requires, c.requires)
+    omega (arith, all, c.table_len.ensures, c.requires.init, c.in_ok-behind.ensures, starts-few (project_view c.args.project.now) (core_view c.args.core.now) 65535 c.requires.small, c.requires.small)

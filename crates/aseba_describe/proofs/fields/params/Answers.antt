@@ -15,7 +15,7 @@ returns-in-None c =
 
 pub loop-room-preserved : goal.loop-room-preserved
 loop-room-preserved c =
-    rw c.in_ok-add-in-Some.ensures (room_goes c.loop-room.room c.loop-room.params c.in-Some.param c.loop-room.rest.now c.in_ok-param.behind.now _ c.loop-room-test.true
+    rw c.in_ok-add-in-Some.ensures.ok (room_goes c.loop-room.room c.loop-room.params c.in-Some.param c.loop-room.rest.now c.in_ok-param.behind.now _ c.loop-room-test.true
     (c.in_ok-param.ensures ∙ ap (λ o. Some (o, c.in_ok-param.behind.now)) c.in-Some.is) c.loop-room.invariant)
 
 pub returns : goal.returns
