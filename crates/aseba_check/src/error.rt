@@ -13,7 +13,8 @@ use thiserror::Error;
 /// variables have no room, or that a subroutine begins where no call reaches it.
 #[derive(Clone, Copy, Debug, PartialEq, Eq, Error)]
 pub enum CheckError {
-    /// A name that nothing gives before it, in the role in which it is used.
+    /// A name that no declaration before it and no constant, node variable, event, native or subroutine
+    /// has, in the role in which it is used.
     #[error("{}:{}: there is nothing of this name", .at.line, .at.col)]
     Unknown { at: Pos },
     /// A name that was given before.

@@ -1,6 +1,6 @@
 //! The words of a source in element form, and how the machine runs words, line by line: the
 //! generator, the definitions over which the compiler and the tools speak, and laws of them. The
-//! laws are functions without a body, so that a check proves what they say.
+//! laws are functions with an empty body, so that a check proves what they say.
 #![tactic(auto)]
 
 ghost use Rattle.aseba_codegen.specs.Agrees.{StraightCodeRuns};

@@ -16,7 +16,7 @@ rank_of kind.Native = 7
 rank_of kind.Event = 8
 rank_of kind.Const = 9
 
--- Where no needed line is missing, kinds of which there may be any number come next.
+-- Where no needed line is missing, the kinds come next that may be missing or stand more than once.
 abbrev pub is_whole : Kind → Bool
 is_whole next = nat_le 5 (rank_of next)
 

@@ -14,7 +14,7 @@ use Rattle.aseba_describe.specs.declared.entry.Entry.TheVariants as entry
 abbrev pub param_text : Param → List ℕ
 param_text p = codes " " ++ signed_decimal p.size ++ codes " " ++ p.name
 
--- the lines of what a project has any number of, with their ends
+-- the lines of what a project may have none or more of, with their ends
 abbrev pub sized_line : List ℕ → Sized → List ℕ
 sized_line word s = word ++ s.name ++ codes " " ++ decimal s.size ++ codes "\n"
 

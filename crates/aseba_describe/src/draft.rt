@@ -132,7 +132,7 @@ impl Draft {
         Ok(())
     }
 
-    /// Whether a line of this kind, of which there may be any number, may follow.
+    /// Whether a line of this kind, which may be missing or stand more than once, may follow.
     fn may_follow(&self, this: Kind) -> bool
         ensures { result ≡ may_follow self.now.next this }
     {

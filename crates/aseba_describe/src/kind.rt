@@ -1,8 +1,8 @@
 ghost use Rattle.std.specs.Prelude.{◌≡◌};
 ghost use Rattle.aseba_describe.specs.Kinds.{rank_of};
 
-/// The kinds of lines, in their order. The first five are needed once each; of the others there may be
-/// any number.
+/// The kinds of lines, in their order. The first five are needed once each; each of the others may be
+/// missing or stand more than once.
 #[derive(Clone, Copy)]
 pub enum Kind {
     Node,

@@ -1,4 +1,4 @@
-//! What the other rooms speak of: tokens, the tree of a source, its element form, what a project
+//! What the other crates speak of: tokens, the tree of a source, its element form, what a project
 //! says of a node, and, in the definitions beside them, what a source means. Plain data, so that
 //! contracts see each value as it stands.
 #![tactic(auto)]

@@ -1,4 +1,4 @@
-//! What every other room stands on: the arithmetic of 16-bit cells, and the small types that
+//! What every other crate stands on: the arithmetic of 16-bit cells, and the small types that
 //! contracts see as plain data.
 #![tactic(auto)]
 

@@ -20,8 +20,9 @@ use std::alloc::Global;
 /// are parts.
 ///
 /// In an order in which each stands behind those that it calls, one pass tells them. Whether the
-/// order is one is seen in that pass. Where it isn't, calls close a cycle, and their depth is
-/// counted call by call.
+/// order is one is seen in that pass. Where it isn't (calls close a cycle, a name stands twice, or a
+/// subroutine that is called isn't there) they are counted in rounds, one call deeper in each. No
+/// source that the check accepted has any of these.
 pub fn sub_depths(
     alloc: Global,
     world: &World,
