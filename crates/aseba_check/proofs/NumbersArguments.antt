@@ -12,7 +12,7 @@ use Rattle.std.proofs.lemmas.List.Sums.{sum_by-cons}
 use Rattle.aseba_tree.specs.declared.description.Param.{Param}
 use Rattle.aseba_tree.specs.Code.{Name, Expr, expr, number, whole, index, range, items, one, two, Exprs, no_exprs, exprs}
 use Rattle.aseba_tree.specs.State.{Program}
-use Rattle.aseba_tree.specs.Core.{CoreExpr}
+use Rattle.aseba_tree.specs.CoreExpr.{CoreExpr}
 use Rattle.aseba_tree.specs.Sizes.{Known, variable_of, constant_of}
 use Rattle.aseba_tree.specs.Faults.{expr_faults, list_faults, argument_count}
 use Rattle.aseba_tree.specs.Elements.{variable_place, elements_of}

@@ -11,12 +11,11 @@ use Rattle.aseba_tree.specs.declared.pos.Pos.{Pos}
 use Rattle.aseba_tree.specs.Code.{Name, Place, Expr, expr, Form, number, whole, index, range, items, one, two, Exprs, no_exprs, exprs, Const, Sized}
 use Rattle.aseba_tree.specs.State.{Program}
 use Rattle.aseba_tree.specs.Value.{as_place, from_to, constant}
-use Rattle.aseba_tree.specs.Core.{CoreExpr, cell}
-use Rattle.aseba_tree.specs.CoreStep.{address_from}
+use Rattle.aseba_tree.specs.CoreExpr.{CoreExpr, cell}
+use Rattle.aseba_tree.specs.Layout.{address_from, variables}
 use Rattle.aseba_tree.specs.Sizes.{Known, Scope, variable_of, constant_of, constant_value, constant_form, is_of_one_cell, range_size, size_of, variable_size, unary_constant, binary_constant}
 use Rattle.aseba_tree.specs.Spells.{first_of}
 use Rattle.aseba_tree.specs.Faults.{fault_if, unknown, not_scalar, bad_size, index_out, is_more_than_one, unknown_variable, index_outside, constant_place, bad_index, bad_range, sizes_differ, bad_operand, bad_operands, not_one_cell, expr_faults, form_faults, list_faults}
-use Rattle.aseba_tree.specs.Layout.{variables}
 use Rattle.aseba_tree.specs.Elements.{variable_place, named_elements, indexed_element, range_elements, elements_of, elements_of_form, elements_of_list}
 use Rattle.aseba_tree.specs.Shape.{is_filled, is_filled_form, are_filled, is_some_exprs}
 use Rattle.aseba_tree.specs.SoundLaws.{HasCells}

@@ -10,7 +10,7 @@ use Rattle.aseba_tree.specs.Code.{Name, Place, Expr, expr, Exprs, no_exprs, expr
 use Rattle.aseba_tree.specs.State.{Program}
 use Rattle.aseba_tree.specs.Step.{part_form, target_expr, step_of}
 use Rattle.aseba_tree.specs.Value.{constant}
-use Rattle.aseba_tree.specs.Core.{CoreExpr, fixed, infix_of}
+use Rattle.aseba_tree.specs.CoreExpr.{CoreExpr, fixed, infix_of}
 use Rattle.aseba_tree.specs.Sizes.{is_of_one_cell, size_of, target_size}
 use Rattle.aseba_tree.specs.Faults.{fault_if, unknown, unknown_variable, bad_index, not_one_cell, expr_faults, list_faults, target_faults, part_faults, cell_faults, head_faults, global_event, stmt_form_faults, stmts_faults}
 use Rattle.aseba_tree.specs.Elements.{elements_of, target_elements, changed_elements, bumped_elements, element_of, target_index}

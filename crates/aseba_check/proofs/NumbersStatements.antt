@@ -12,7 +12,7 @@ use Rattle.aseba_tree.specs.State.{Program}
 use Rattle.aseba_tree.specs.Step.{part_form, target_expr, step_of}
 use Rattle.aseba_tree.specs.Value.{constant}
 use Rattle.aseba_tree.specs.View.{native_view, param_view}
-use Rattle.aseba_tree.specs.Core.{CoreExpr, fixed, cell, indirect, prefix, infix_of}
+use Rattle.aseba_tree.specs.CoreExpr.{CoreExpr, fixed, cell, indirect, prefix, infix_of}
 use Rattle.aseba_tree.specs.Sizes.{Known, Scope, variable_of, constant_of, constant_value, is_constant, is_of_one_cell, name_size, size_of, form_size, part_size, target_size}
 use Rattle.aseba_tree.specs.Spells.{first_of}
 use Rattle.aseba_tree.specs.Faults.{fault_if, unknown, not_constant, arg_count, unknown_variable, bad_index, bad_range, constant_place, zero_divisions, not_one_cell, expr_faults, form_faults, list_faults, part_faults, target_faults, assignment_faults, bound_faults, cell_faults, head_faults, step_faults, argument_faults, global_event, argument_count, native_of, native_faults, with_params, length_faults, World, stmt_form_faults, stmts_faults}

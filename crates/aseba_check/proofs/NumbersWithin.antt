@@ -7,7 +7,7 @@ use Rattle.std.proofs.lemmas.List.FromFn.{length-range_with_len, length-map-rang
 use Rattle.aseba_tree.specs.Code.{Name, Place, Expr, expr, Form, number, whole, index, range, items, one, two, Exprs, no_exprs, exprs, Const}
 use Rattle.aseba_tree.specs.State.{Program}
 use Rattle.aseba_tree.specs.Value.{as_place, from_to, constant}
-use Rattle.aseba_tree.specs.Core.{CoreExpr, cell, prefix}
+use Rattle.aseba_tree.specs.CoreExpr.{CoreExpr, cell, prefix}
 use Rattle.aseba_tree.specs.Sizes.{Known, variable_of}
 use Rattle.aseba_tree.specs.Faults.{unknown_variable, bad_index, bad_operand, bad_operands, expr_faults, form_faults, list_faults}
 use Rattle.aseba_tree.specs.Elements.{variable_place, named_elements, indexed_element, range_elements, elements_of, elements_of_form, elements_of_list}

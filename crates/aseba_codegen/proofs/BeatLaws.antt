@@ -4,10 +4,11 @@ use Rattle.std.specs.Prelude.{ℤ}
 use Rattle.std.proofs.lemmas.List.Sums.{sum_by-cons}
 use Rattle.aseba_tree.specs.Code.{Name, Project}
 use Rattle.aseba_tree.specs.Line.{Event}
-use Rattle.aseba_tree.specs.Layout.{Placed}
+use Rattle.aseba_tree.specs.Layout.{Placed, placed_named}
+use Rattle.aseba_tree.specs.Events.{event_number}
 use Rattle.aseba_tree.specs.Script.{Action, arrives, sets, Script, actions_at}
 use Rattle.aseba_vm.specs.Tick.{ticked}
-use Rattle.aseba_codegen.specs.Table.{Layout, Run, arriving, writing, acting, all_acting, ticking, all_ticking, beats_from, beginning, started, event_number, placed_named, is_effect}
+use Rattle.aseba_codegen.specs.Table.{Layout, Run, arriving, writing, acting, all_acting, ticking, all_ticking, beats_from, beginning, started, is_effect}
 use Rattle.aseba_codegen.specs.Beats.{BeatsAreTicks, TrueBeatsAreEffects}
 
 -- what comes from outside is no effect

@@ -5,9 +5,9 @@ use Rattle.std.specs.Prelude.{All, find, option_map, bytes_eq, codes}
 use Rattle.std.specs.Int.{cast_signed, w16, int_wrap}
 use Rattle.aseba_words.specs.Cell.{wrapped}
 use Rattle.aseba_tree.specs.Code.{Name, Sized, Project}
-use Rattle.aseba_tree.specs.Layout.{placed_from}
+use Rattle.aseba_tree.specs.Layout.{placed_from, address_from, address_of}
 use Rattle.aseba_tree.specs.Core.{core_stmt, CoreForm, store, branch, on_edge, loop, send, enter, use_native, go_back, CoreStmts, no_core, core_stmts, Core}
-use Rattle.aseba_tree.specs.CoreStep.{finish_core, CoreProgram, core_tasks, core_list_whens, whens_before, address_from, address_of, put_into, put_from, core_loaded}
+use Rattle.aseba_tree.specs.CoreStep.{finish_core, CoreProgram, core_tasks, core_list_whens, whens_before, put_into, put_from, core_loaded}
 use Rattle.aseba_tree.specs.CoreNumbers.{core_sub_depth, core_list_depth, core_list_weight, core_weight}
 use Rattle.aseba_tree.specs.CoreShape.{is_readable, is_good_list}
 use Rattle.aseba_tree.specs.Numbers.{is_large}
@@ -17,7 +17,9 @@ use Rattle.aseba_vm.specs.Loaded.{made, loaded, reset_state, fresh_cells}
 use Rattle.aseba_codegen.specs.Table.{shape_of, started}
 use Rattle.aseba_codegen.specs.declared.coded.Coded.{Coded}
 use Rattle.aseba_codegen.specs.Words.{Site, on_line, instruction, store_code, site_of, form_code, list_code, body_code, init_code, init_start, part_starts, table_of, table_code, core_code, code_words}
-use Rattle.aseba_codegen.specs.Agrees.{IsStraightCore, truths, is_straight, is_straight_form, list_has_cells, list_is_lined}
+use Rattle.aseba_codegen.specs.Agrees.{IsStraightCore, truths, is_straight, is_straight_form}
+use Rattle.aseba_tree.specs.CoreCells.{list_has_cells}
+use Rattle.aseba_tree.specs.CoreLines.{list_is_lined}
 use Rattle.aseba_codegen.proofs.Reach.{Lined, Stands, stands-split, stands-lined}
 use Rattle.aseba_codegen.proofs.Values.{and-left, and-right}
 use Rattle.aseba_codegen.proofs.Lengths.{code-long}
@@ -210,8 +212,8 @@ module _ (project : Project) (variables : List Sized) (init : CoreStmts) (cells 
       let subs : ℕ → ℕ = core_sub_depth alone 0 in
       let shape = h.shape in
       let good : is_good_list project alone [] init ≡ true = and-left (is_good_list project alone [] init) true shape.is_good in
-      let numbers : list_has_cells init ≡ true = and-left (list_has_cells init) true h.numbers in
-      let lined : list_is_lined cells init ≡ true = and-left (list_is_lined cells init) true h.lined in
+      let numbers : list_has_cells init ≡ true = and-left (list_has_cells init) true shape.numbers in
+      let lined : list_is_lined cells init ≡ true = and-left (list_is_lined cells init) true shape.lined in
       let deep : core_list_depth subs init ≤ project.node.stack = let a = shape.has_depth in let b = h.depth in omega arith in
       let light : core_list_weight cells init 0 ≤ core_weight alone = omega arith in
       let split = stands-split (core_code project alone) 3 (list_code site init) (on_line 1 (instruction 0 0 ∷ [])) stands-init in

@@ -10,8 +10,7 @@ use Rattle.aseba_words.specs.Codes.{unary_code, binary_code}
 use Rattle.aseba_words.specs.declared.operators.Unary.{Unary}
 use Rattle.aseba_words.specs.declared.operators.Binary.{Binary}
 use Rattle.aseba_tree.specs.Value.{Stop, by_zero, outside, Element, and_then, place_among, unary_element, binary_element}
-use Rattle.aseba_tree.specs.Core.{CoreExpr, fixed, cell, indirect, prefix, infix_of}
-use Rattle.aseba_tree.specs.CoreStep.{core_value}
+use Rattle.aseba_tree.specs.CoreExpr.{CoreExpr, fixed, cell, indirect, prefix, infix_of, core_value}
 use Rattle.aseba_tree.specs.Numbers.{nodes, depth}
 use Rattle.aseba_vm.specs.declared.tick.Tick.TheVariants.{Quiet, Sent}
 use Rattle.aseba_vm.specs.declared.tick.Notice.{Notice}

@@ -7,8 +7,10 @@ use Rattle.aseba_tree.specs.Code.{Project, Sized}
 use Rattle.aseba_tree.specs.Line.{sent, report_by}
 use Rattle.aseba_tree.specs.Value.{Stop, by_zero, outside, Element, and_then, place_among}
 use Rattle.aseba_tree.specs.Step.{applied_cells, stop_report}
-use Rattle.aseba_tree.specs.Core.{CoreExpr, CoreTarget, into, into_index, core_stmt, CoreForm, store, branch, on_edge, loop, send, enter, use_native, go_back}
-use Rattle.aseba_tree.specs.CoreStep.{core_value, target_address, CoreTask, perform_core, leave_core, turn_core, back_core, finish_core, CoreState, CoreProgram, CoreStepped, core_ended, core_stored, core_storing, core_stopped, core_none_held, event_numbered, with_temporary, core_task_done, core_first_done, core_work_line}
+use Rattle.aseba_tree.specs.CoreExpr.{CoreExpr, CoreTarget, into, into_index, core_value, target_address}
+use Rattle.aseba_tree.specs.Core.{core_stmt, CoreForm, store, branch, on_edge, loop, send, enter, use_native, go_back}
+use Rattle.aseba_tree.specs.Events.{event_of}
+use Rattle.aseba_tree.specs.CoreStep.{CoreTask, perform_core, leave_core, turn_core, back_core, finish_core, CoreState, CoreProgram, CoreStepped, core_ended, core_stored, core_storing, core_stopped, core_none_held, with_temporary, core_task_done, core_first_done, core_work_line}
 use Rattle.aseba_tree.specs.CoreNumbers.{core_form_depth, kept_nodes, own_nodes}
 use Rattle.aseba_tree.specs.CoreShape.{is_readable, is_readable_range, is_indexed, is_good_expr, is_good_target, is_good_form, kept_at, stands_in}
 use Rattle.aseba_tree.specs.Numbers.{nodes, depth}
@@ -17,10 +19,11 @@ use Rattle.aseba_vm.specs.declared.tick.Tick.TheVariants.{Stored, Effect, Sent}
 use Rattle.aseba_vm.specs.declared.tick.Notice.TheVariants.{Emit, Bounds}
 use Rattle.aseba_vm.specs.State.{State, applied, ended}
 use Rattle.aseba_vm.specs.Tick.{ticked}
-use Rattle.aseba_codegen.specs.Table.{is_effect, tick_reports, event_of}
+use Rattle.aseba_codegen.specs.Table.{is_effect, tick_reports}
 use Rattle.aseba_codegen.specs.declared.coded.Coded.{Coded}
 use Rattle.aseba_codegen.specs.Words.{instruction, expr_code, store_code}
-use Rattle.aseba_codegen.specs.Agrees.{line_at, truths, is_error, form_has_cells, target_has_cells, has_cells, is_straight_form}
+use Rattle.aseba_codegen.specs.Agrees.{line_at, truths, is_error, is_straight_form}
+use Rattle.aseba_tree.specs.CoreCells.{form_has_cells, target_has_cells, has_cells}
 use Rattle.aseba_codegen.proofs.TickRows.{put, halted, stored, Ready, store-tick, store_indirect-tick, store_outside-tick, emit-tick, end-tick}
 use Rattle.aseba_codegen.proofs.Reach.{Holds, Lined, lined-split, lined-line, line-of, Same, Hidden, Reaches, reached}
 use Rattle.aseba_codegen.proofs.Exprs.{Sits, notice_of, Runs, Goes, expr-run, place-cases}
@@ -476,15 +479,10 @@ module _ (program : CoreProgram) (code : List Coded) (weight : ℕ) where
       (λ v. expr-run code program.core.cells (G (Ok v) (core_value m.cells i)) i m (v ∷ []) right last line b c between (omega arith) (runs-of m t kept g) sat_i parts.1 there (omega arith)
       (index-after (core_value m.cells i) rest m t v last line base size c kept reach low g whole.1 (subst (λ k. Placed m.shape.stack rest k kept 0) behind placed))))))
 
-  -- an event is sent under the same name
-  same-event : (project : Project) (event : ℕ) (o : Option Sized) → slice_get project.events event ≡ o → event_of project event ≡ event_numbered project event
-  same-event project event None e = rw e refl
-  same-event project event (Some v) e = rw e refl
-
   send-run : (before line event address count : ℕ) (rest : List CoreTask)
       → (m : State) (t : CoreState) (at : ℕ) (kept : List ℕ) (weighs n : ℕ) → length program.project.events ≤ 4096 → Fits m.shape.stack line (send event address count) at kept weighs
       → Placed m.shape.stack rest (at + 3) kept 0 → Going m t kept
-      → Reaches code program.core.cells (Lands (record { state = record t { work = rest }; report = Some (sent (event_numbered program.project event) (slice_range t.cells address (address + count))) })) n (put m [] at)
+      → Reaches code program.core.cells (Lands (record { state = record t { work = rest }; report = Some (sent (event_of program.project event) (slice_range t.cells address (address + count))) })) n (put m [] at)
   send-run before line event address count rest m t at kept weighs n events fits placed g =
       let is_known : Bool = nat_lt event (length program.project.events) in
       let is_short : Bool = nat_le count 256 in
@@ -501,14 +499,13 @@ module _ (program : CoreProgram) (code : List Coded) (weight : ℕ) where
       let second : slice_get m.code (at + 2) ≡ Some count = subst (λ k. slice_get m.code k ≡ Some count) e (g.base.holds (at + 1 + 1) _ (fits.stands).1.1.0 refl) in
       let tick : ticked (put m [] at) ≡ (Sent (Emit event address count), put m [] (at + 3)) = emit-tick (put m [] at) event address count (omega arith) (ready m t kept [] at line _ g (fits.stands).0) first second fit few in
       let cells : take count (drop address m.cells) ≡ slice_range t.cells address (address + count) = range-alike program.core kept m.cells t.cells address count readable g.reads g.base.long (let l = g.base.core_long in omega arith) in
-      let name : event_of program.project event ≡ event_numbered program.project event = same-event program.project event (slice_get program.project.events event) refl in
-      let after : CoreStepped = record { state = record t { work = rest }; report = Some (sent (event_numbered program.project event) (slice_range t.cells address (address + count))) } in
+      let after : CoreStepped = record { state = record t { work = rest }; report = Some (sent (event_of program.project event) (slice_range t.cells address (address + count))) } in
       let next : Aligned (put m [] (at + 3)) (record t { work = rest }) = record {
         base = put-base m t [] (at + 3) rest g.base;
         works = λ active. record { kept = kept; reads = g.reads; placed = placed; empty = refl; unpaused = g.unpaused };
       } in
       reached code program.core.cells (Lands after) n (put m [] at)
-      (lands-by after (put m [] at) (put m [] (at + 3)) (Sent (Emit event address count)) tick refl refl (rw (name, cells) refl) next)
+      (lands-by after (put m [] at) (put m [] (at + 3)) (Sent (Emit event address count)) tick refl refl (rw cells refl) next)
 
   finish-run : (line : ℕ) (rest : List CoreTask) (m : State) (t : CoreState) (at : ℕ) (kept : List ℕ) (n : ℕ) → Lined code line at (instruction 0 0 ∷ []) → Going m t kept
       → Reaches code program.core.cells (Lands (record { state = core_ended (record t { work = rest }); report = None })) n (put m [] at)

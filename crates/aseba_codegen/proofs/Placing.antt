@@ -2,14 +2,17 @@
 use Rattle.std.proofs.Common.{◌≡◌, ℕ, ◌+◌, ◌≤◌, ◌⊎◌, inl, inr, ◌&&◌, not, max, Bool, true, false, if◌then◌else◌, nat_le, is_some, List, [], ◌∷◌, ◌++◌, length, slice_get, Option, Some, None, refl, sym, ap, ◌∙◌, subst, arith, true≢false, eqb-true, append_assoc, length-append, subst₂}
 use Rattle.std.specs.Prelude.{option_to_list, nat_eq}
 use Rattle.aseba_tree.specs.Code.{Project}
-use Rattle.aseba_tree.specs.Core.{into, into_index, core_stmt, CoreForm, store, branch, on_edge, loop, send, enter, use_native, go_back, CoreStmts, no_core, core_stmts, Core}
+use Rattle.aseba_tree.specs.CoreExpr.{into, into_index}
+use Rattle.aseba_tree.specs.Core.{core_stmt, CoreForm, store, branch, on_edge, loop, send, enter, use_native, go_back, CoreStmts, no_core, core_stmts, Core}
 use Rattle.aseba_tree.specs.CoreStep.{CoreTask, CoreProgram, core_tasks, core_whens, core_work_line}
 use Rattle.aseba_tree.specs.CoreNumbers.{core_form_depth, core_list_depth, kept_nodes, own_nodes, inner_weight, weight_or_kept, core_list_weight}
 use Rattle.aseba_tree.specs.CoreShape.{kept_at, is_last, is_good_form, is_good_list}
 use Rattle.aseba_tree.specs.Numbers.{nodes}
 use Rattle.aseba_codegen.specs.declared.coded.Coded.{Coded}
 use Rattle.aseba_codegen.specs.Words.{Site, on_line, form_code, list_code}
-use Rattle.aseba_codegen.specs.Agrees.{form_has_cells, list_has_cells, first_line, is_kept_on, form_is_lined, list_is_lined, is_straight_form, is_straight}
+use Rattle.aseba_codegen.specs.Agrees.{is_straight_form, is_straight}
+use Rattle.aseba_tree.specs.CoreCells.{form_has_cells, list_has_cells}
+use Rattle.aseba_tree.specs.CoreLines.{first_line, is_kept_on, form_is_lined, list_is_lined}
 use Rattle.aseba_codegen.proofs.Reach.{Lined, Stands, stands-split, stands-lined}
 use Rattle.aseba_codegen.proofs.Values.{and-left, and-right}
 use Rattle.aseba_codegen.proofs.Lengths.{on_line-long}

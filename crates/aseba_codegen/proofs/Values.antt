@@ -4,10 +4,11 @@ use Rattle.std.specs.List.{list_all, range_with_len}
 use Rattle.std.specs.Int.{w16}
 use Rattle.std.specs.Int.RustNames.{FitsSigned}
 use Rattle.aseba_tree.specs.Value.{Element, and_then, place_among, unary_element}
-use Rattle.aseba_tree.specs.Core.{CoreExpr, fixed, cell, indirect, prefix, infix_of, CoreTarget, into, into_index, Core}
-use Rattle.aseba_tree.specs.CoreStep.{core_value, target_address}
+use Rattle.aseba_tree.specs.CoreExpr.{CoreExpr, fixed, cell, indirect, prefix, infix_of, CoreTarget, into, into_index, core_value, target_address}
+use Rattle.aseba_tree.specs.Core.{Core}
 use Rattle.aseba_tree.specs.CoreShape.{is_readable, is_readable_range, is_indexed, is_good_expr, is_good_target}
-use Rattle.aseba_codegen.specs.Agrees.{is_cell, has_cells}
+use Rattle.aseba_tree.specs.Value.{is_cell}
+use Rattle.aseba_tree.specs.CoreCells.{has_cells}
 use Rattle.aseba_codegen.proofs.Exprs.{Sits, place-cases}
 
 pub and-left : (a b : Bool) → (a && b) ≡ true → a ≡ true

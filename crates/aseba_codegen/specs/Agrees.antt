@@ -4,7 +4,8 @@ use Rattle.std.specs.List.{list_all}
 use Rattle.aseba_tree.specs.Code.{Project}
 use Rattle.aseba_tree.specs.Line.{line_by}
 use Rattle.aseba_tree.specs.Script.{Script, actions_at}
-use Rattle.aseba_tree.specs.Core.{CoreExpr, fixed, cell, indirect, prefix, infix_of, CoreTarget, into, into_index, CoreStmt, core_stmt, CoreForm, store, branch, on_edge, loop, send, CoreStmts, no_core, core_stmts, Core}
+use Rattle.aseba_tree.specs.CoreExpr.{CoreExpr, fixed, cell, indirect, prefix, infix_of, CoreTarget, into, into_index}
+use Rattle.aseba_tree.specs.Core.{CoreStmt, core_stmt, CoreForm, store, branch, on_edge, loop, send, CoreStmts, no_core, core_stmts, Core}
 use Rattle.aseba_tree.specs.CoreNumbers.{core_weight}
 use Rattle.aseba_tree.specs.CoreShape.{IsCore}
 use Rattle.aseba_tree.specs.CoreStep.{CoreProgram, CoreState, core_next_line}
@@ -30,69 +31,6 @@ pub record IsNode (project : Project) : Type 0 where
   pub events : length project.events ≤ 4096
   pub sizes : All (λ v. 1 ≤ v.size) project.node.variables
 
--- a number from -32768 to 32767
-abbrev pub is_cell : ℤ → Bool
-is_cell (pos n) = nat_lt n 32768
-is_cell (negsuc n) = nat_lt n 32768
-
--- An expression's numbers are cells, and what it indexes has one at least.
-abbrev pub has_cells : CoreExpr → Bool
-has_cells (fixed v) = is_cell v
-has_cells (cell address) = true
-has_cells (indirect base size i) = nat_lt 0 size && has_cells i
-has_cells (prefix op e) = has_cells e
-has_cells (infix_of op l r) = has_cells l && has_cells r
-
-abbrev pub target_has_cells : CoreTarget → Bool
-target_has_cells (into address) = true
-target_has_cells (into_index base size i) = nat_lt 0 size && has_cells i
-
--- so it is with all expressions in statements
-abbrev mutual
-  pub stmt_has_cells : CoreStmt → Bool
-  stmt_has_cells (core_stmt line form) = form_has_cells form
-
-  pub form_has_cells : CoreForm → Bool
-  form_has_cells (store target e) = target_has_cells target && has_cells e
-  form_has_cells (branch c body other) = has_cells c && list_has_cells body && list_has_cells other
-  form_has_cells (on_edge c body) = has_cells c && list_has_cells body
-  form_has_cells (loop c body) = has_cells c && list_has_cells body
-  form_has_cells _ = true
-
-  pub list_has_cells : CoreStmts → Bool
-  list_has_cells no_core = true
-  list_has_cells (core_stmts s ss) = stmt_has_cells s && list_has_cells ss
-
-abbrev pub core_has_cells : Core → Bool
-core_has_cells core = list_has_cells core.init && list_all (λ part. list_has_cells part.body) core.parts
-
--- the line of the first statement, or another where there is none
-abbrev pub first_line : ℕ → CoreStmts → ℕ
-first_line other no_core = other
-first_line other (core_stmts (core_stmt line form) ss) = line
-
-abbrev pub is_kept_on : (cells line : ℕ) → CoreForm → CoreStmts → Bool
-is_kept_on cells line (store (into address) e) rest = if nat_le cells address then nat_eq line (first_line line rest) else true
-is_kept_on cells line _ rest = true
-
--- a store into a temporary has the line of the statement behind it
-abbrev mutual
-  pub stmt_is_lined : (cells : ℕ) → CoreStmt → CoreStmts → Bool
-  stmt_is_lined cells (core_stmt line form) rest = is_kept_on cells line form rest && form_is_lined cells form
-
-  pub form_is_lined : (cells : ℕ) → CoreForm → Bool
-  form_is_lined cells (branch c body other) = list_is_lined cells body && list_is_lined cells other
-  form_is_lined cells (on_edge c body) = list_is_lined cells body
-  form_is_lined cells (loop c body) = list_is_lined cells body
-  form_is_lined cells _ = true
-
-  pub list_is_lined : (cells : ℕ) → CoreStmts → Bool
-  list_is_lined cells no_core = true
-  list_is_lined cells (core_stmts s ss) = stmt_is_lined cells s ss && list_is_lined cells ss
-
-abbrev pub core_is_lined : Core → Bool
-core_is_lined core = list_is_lined core.cells core.init && list_all (λ part. list_is_lined core.cells part.body) core.parts
-
 -- statements that only store and send
 abbrev pub is_straight_form : CoreForm → Bool
 is_straight_form (store target e) = true
@@ -109,8 +47,6 @@ pub record IsStraightCore (project : Project) (core : Core) : Type 0 where
   pub shape : IsCore project core
   pub size : core.size ≤ project.node.code
   pub depth : core.depth ≤ project.node.stack
-  pub numbers : IsTrue (core_has_cells core)
-  pub lined : IsTrue (core_is_lined core)
   pub straight : IsTrue (is_straight core.init)
   pub alone : core.parts ≡ []
 

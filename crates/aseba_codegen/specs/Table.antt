@@ -16,7 +16,8 @@ use Rattle.aseba_vm.specs.Arrival.{arrived}
 use Rattle.aseba_vm.specs.Control.{hold_written}
 use Rattle.aseba_vm.specs.Loaded.{made, loaded, reset_state}
 use Rattle.aseba_tree.specs.State.{Program, node_variables, declared}
-use Rattle.aseba_tree.specs.Layout.{Placed, placed_from, cells_of_variables}
+use Rattle.aseba_tree.specs.Layout.{Placed, placed_from, placed_named, cells_of_variables}
+use Rattle.aseba_tree.specs.Events.{event_number, event_of}
 
 -- The variables of the node and the program's own, each with its place, and the number of all their cells. Temporaries lie behind them.
 pub record Layout : Type 0 where
@@ -28,10 +29,6 @@ abbrev pub layout_of : Program → Layout
 layout_of program =
     let node = node_variables program.project in
     record { node = placed_from 0 node; own = placed_from (sum_by (λ v. v.size) node) (declared program); cells = cells_of_variables program }
-
--- the first of these variables of a name
-abbrev pub placed_named : List Placed → Name → Option Placed
-placed_named variables name = find (λ v. bytes_eq v.name name) variables
 
 -- the shape of a node's machine
 abbrev pub shape_of : Project → Shape
@@ -46,29 +43,6 @@ shape_of project =
       args_at = unwrap_or (option_map (λ v. v.start) (place (codes "event.args"))) 0;
       args_len = unwrap_or (option_map (λ v. v.size) (place (codes "event.args"))) 0;
     }
-
--- a number of an event in the event table of a program: global events count from 0, local ones from 65534 down
-abbrev pub global_number : Project → Name → Option ℕ
-global_number project name = position (λ e. bytes_eq e.name name) project.events
-
-abbrev pub local_number : Project → Name → Option ℕ
-local_number project name = option_map (λ i. 65534 - i) (position (λ e. bytes_eq e.name name) project.node.locals)
-
-abbrev pub event_number : Project → Event → Option ℕ
-event_number project (named name) = or_else (global_number project name) (local_number project name)
-  where
-    or_else : Option ℕ → Option ℕ → Option ℕ
-    or_else None other = other
-    or_else (Some n) other = Some n
-event_number project (numbered n) = Some n
-
--- the event that is sent under a number
-abbrev pub event_of : Project → ℕ → Event
-event_of project number = known (slice_get project.events number)
-  where
-    known : Option Sized → Event
-    known None = numbered number
-    known (Some e) = named e.name
 
 -- a run so far: the ticks, the effects, the machine, and the lines
 pub record Run : Type 0 where

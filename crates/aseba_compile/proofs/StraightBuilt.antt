@@ -12,8 +12,7 @@ use Rattle.aseba_tree.specs.View.{sized_view, decl_view, stmt_view, stmts_of}
 use Rattle.aseba_tree.specs.View as view
 use Rattle.aseba_tree.specs.State.{Program, assignment, in_front}
 use Rattle.aseba_tree.specs.Core.{CoreStmt, core_stmt, core_stmts}
-use Rattle.aseba_tree.specs.CoreStep.{address_of}
-use Rattle.aseba_tree.specs.Layout.{variables}
+use Rattle.aseba_tree.specs.Layout.{address_of, variables}
 use Rattle.aseba_tree.specs.Elements.{variable_place, elements_of_form, element_of}
 use Rattle.aseba_tree.proofs.SizeLaws.{both_left, both_right}
 use Rattle.aseba_compile.specs.Straight.{has_one_cell_named, adds, is_sum, is_sum_form, is_all, is_straight_form, address, event_place, core_form_of, core_stmt_of, core_stmts_of}

@@ -7,7 +7,8 @@ use Rattle.std.proofs.lemmas.List.Sums.{sum_by-cons}
 use Rattle.aseba_tree.specs.Code.{Name, Sized}
 use Rattle.aseba_tree.specs.Value.{Cells, cells_of, put_cell}
 use Rattle.aseba_tree.specs.State.{none_held, zeros}
-use Rattle.aseba_tree.specs.CoreStep.{address_from, put_from, put_into}
+use Rattle.aseba_tree.specs.Layout.{address_from}
+use Rattle.aseba_tree.specs.CoreStep.{put_from, put_into}
 use Rattle.aseba_compile.specs.Standing.{all_cells_of}
 
 -- the cells are those of the variables, name by name and as many as each has

@@ -8,14 +8,17 @@ use Rattle.std.proofs.lemmas.List.Folds.{find_at}
 use Rattle.aseba_words.specs.declared.operators.Binary.{Binary}
 use Rattle.aseba_tree.specs.Code.{Name, Place, expr, Form, number, whole, index, range, items, one, two, Part, all, stmt, StmtForm, assign, change, bump, if_then, when_do, while_do, for_do, emit, callsub, call, return, Stmts, no_stmts, stmts, Sized, Const, Project}
 use Rattle.aseba_tree.specs.State.{Program, init_code}
-use Rattle.aseba_tree.specs.Core.{CoreExpr, fixed, cell, infix_of, CoreStmts}
-use Rattle.aseba_tree.specs.CoreStep.{address_of}
-use Rattle.aseba_tree.specs.Layout.{variables, cells_of_variables}
+use Rattle.aseba_tree.specs.CoreExpr.{CoreExpr, fixed, cell, infix_of}
+use Rattle.aseba_tree.specs.Core.{CoreStmts}
+use Rattle.aseba_tree.specs.Layout.{address_of, variables, cells_of_variables}
 use Rattle.aseba_tree.specs.Elements.{variable_place, elements_of_form}
 use Rattle.aseba_tree.specs.Numbers.{form_words, stmts_words, form_depth, stmts_depth, form_weight, stmts_weight, source_weight, part_words, depth_of_sub}
 use Rattle.aseba_tree.specs.CoreNumbers.{core_form_words, core_list_words, core_form_depth, core_list_depth, core_sub_depth, kept_nodes, own_nodes, inner_weight, core_list_weight, core_weight}
+use Rattle.aseba_tree.specs.Value.{is_cell}
+use Rattle.aseba_tree.specs.CoreCells.{has_cells, form_has_cells, list_has_cells}
+use Rattle.aseba_tree.specs.CoreLines.{is_kept_on, form_is_lined, list_is_lined}
 use Rattle.aseba_tree.specs.CoreShape.{is_last, is_readable, is_good_expr, is_good_form, is_good_list, kept_at, IsCore}
-use Rattle.aseba_codegen.specs.Agrees.{is_cell, has_cells, form_has_cells, list_has_cells, is_kept_on, form_is_lined, list_is_lined, is_straight_form, is_straight, IsStraightCore}
+use Rattle.aseba_codegen.specs.Agrees.{is_straight_form, is_straight, IsStraightCore}
 use Rattle.aseba_compile.specs.Straight as source
 use Rattle.aseba_compile.specs.Straight.{adds, is_sum_form, event_place, core_form_of, core_stmts_of, straight_core}
 use Rattle.aseba_compile.specs.StraightRun.{HasCellConstants, Fits}
@@ -223,6 +226,8 @@ core-shape program is cells =
       has_depth = omega (arith, deep);
       has_room = rw add-zero cells;
       is_good = rw more.good refl;
+      numbers = rw more.numbers refl;
+      lined = rw more.lined refl;
       handles_events = refl;
       ends = refl;
       is_near = λ large. refl;
@@ -240,8 +245,6 @@ core-straight program fits =
       shape = core-shape program is (cells-fit program fits.sound);
       size = fits.code;
       depth = fits.stack;
-      numbers = rw more.numbers refl;
-      lined = rw more.lined refl;
       straight = more.straight;
       alone = refl;
     }

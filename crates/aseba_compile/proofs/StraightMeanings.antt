@@ -7,8 +7,7 @@ use mathlib.Core.Path.{fun_ext}
 use Rattle.aseba_tree.specs.declared.project.Const as code
 use Rattle.aseba_tree.specs.Code.{Name, Sized, Const}
 use Rattle.aseba_tree.specs.View.{const_view}
-use Rattle.aseba_tree.specs.CoreStep.{address_from, address_of}
-use Rattle.aseba_tree.specs.Layout.{placed_from}
+use Rattle.aseba_tree.specs.Layout.{address_from, address_of, placed_from}
 use Rattle.aseba_compile.specs.declared.straight.names.Meaning.{Meaning}
 use Rattle.aseba_compile.specs.declared.straight.names.Meaning.TheVariants.{Variable, Constant}
 use Rattle.aseba_compile.specs.Straight.{has_one_cell, has_one_cell_named}

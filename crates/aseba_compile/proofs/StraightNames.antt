@@ -7,8 +7,7 @@ use Rattle.std.proofs.lemmas.Slice.Eq.{bytes_eq-Decides}
 use Rattle.aseba_tree.specs.Code.{Sized}
 use Rattle.aseba_tree.specs.Line.{var}
 use Rattle.aseba_tree.specs.Value.{Cells, variable_cells}
-use Rattle.aseba_tree.specs.CoreStep.{address_from, address_of}
-use Rattle.aseba_tree.specs.Layout.{Placed, placed_from}
+use Rattle.aseba_tree.specs.Layout.{address_from, address_of, Placed, placed_from}
 use Rattle.aseba_tree.proofs.SizeLaws.{both_left, both_right}
 use Rattle.aseba_compile.specs.Standing.{all_cells_of}
 use Rattle.aseba_compile.proofs.StraightCells.{Laid, cells-flat}

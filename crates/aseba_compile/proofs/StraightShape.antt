@@ -4,8 +4,7 @@ use Rattle.std.specs.Prelude.{◌≡◌, ℕ, Bool, true, not, ◌&&◌, nat_eq,
 use Rattle.std.specs.List.{list_any}
 use Rattle.aseba_tree.specs.Code.{Name, Part, all, at, span, Stmts, Sized, Const, Project}
 use Rattle.aseba_tree.specs.State.{Program, init_code, node_variables, declared}
-use Rattle.aseba_tree.specs.CoreStep.{address_of}
-use Rattle.aseba_tree.specs.Layout.{variables}
+use Rattle.aseba_tree.specs.Layout.{address_of, variables}
 use Rattle.aseba_compile.specs.Straight.{is_all, has_one_cell_named, are_straight}
 use Rattle.aseba_compile.specs.StraightRun.{HasCellConstants}
 

@@ -11,11 +11,10 @@ use Rattle.aseba_words.specs.declared.operators.Binary.TheVariants.{Add, Sub}
 use Rattle.aseba_tree.specs.Code.{Name, Place, Expr, expr, Form, number, whole, index, range, items, one, two, Part, all, stmt, StmtForm, assign, change, bump, if_then, when_do, while_do, for_do, emit, callsub, call, return, Stmts, no_stmts, stmts, Decl, Handler, Sized, Const}
 use Rattle.aseba_tree.specs.Value.{as_place, constant}
 use Rattle.aseba_tree.specs.State.{Program, declared_size, assignment, in_front, init_code, node_variables}
-use Rattle.aseba_tree.specs.CoreStep.{address_from, address_of}
+use Rattle.aseba_tree.specs.Layout.{address_from, address_of, variables}
 use Rattle.aseba_tree.specs.Sizes.{Scope, variable_of, constant_of, constant_value, common_size, name_size, binary_size, size_of, form_size}
 use Rattle.aseba_tree.specs.Faults.{fault_if, unknown, duplicate, bad_size, sizes_differ, is_known, unknown_variable, expr_faults, assignment_faults, global_event, World, stmts_faults, stmt_form_faults, size_in_range, given_size, size_faults, value_faults, decl_faults, declaring, decls_faults, parts_faults, recursion_faults, sub_calls, first_scope, world_of}
 use Rattle.aseba_tree.specs.Shape.{is_filled, is_filled_form, decl_exprs, stmts_exprs, IsTree}
-use Rattle.aseba_tree.specs.Layout.{variables}
 use Rattle.aseba_tree.specs.Soundness.{Sound}
 use Rattle.aseba_tree.specs.SoundLaws.{HasCells}
 use Rattle.aseba_tree.proofs.SizeLaws.{EachKnown, nil_left, nil_right, no_fault, not_false, both_left, both_right, expr_is_good}

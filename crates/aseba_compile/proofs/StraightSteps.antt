@@ -9,9 +9,11 @@ use Rattle.aseba_tree.specs.Line.{named, Report, sent}
 use Rattle.aseba_tree.specs.Value.{Cells, put_cell, value}
 use Rattle.aseba_tree.specs.State.{Program, finish, tasks, State, none_held}
 use Rattle.aseba_tree.specs.Step.{applied_cells, Stepped, places, step}
-use Rattle.aseba_tree.specs.Core.{CoreExpr, core_stmt, store, into, send, CoreStmts, no_core, core_stmts}
-use Rattle.aseba_tree.specs.CoreStep.{finish_core, core_tasks, CoreState, CoreProgram, CoreStepped, core_none_held, core_value, core_step, address_of, event_numbered}
-use Rattle.aseba_tree.specs.Layout.{variables, cells_of_variables}
+use Rattle.aseba_tree.specs.CoreExpr.{CoreExpr, into, core_value}
+use Rattle.aseba_tree.specs.Core.{core_stmt, store, send, CoreStmts, no_core, core_stmts}
+use Rattle.aseba_tree.specs.Layout.{address_of, variables, cells_of_variables}
+use Rattle.aseba_tree.specs.Events.{event_of}
+use Rattle.aseba_tree.specs.CoreStep.{finish_core, core_tasks, CoreState, CoreProgram, CoreStepped, core_none_held, core_step}
 use Rattle.aseba_tree.specs.Elements.{element_of}
 use Rattle.aseba_tree.proofs.Steps.{applied-none_held}
 use Rattle.aseba_tree.proofs.SizeLaws.{both_left, both_right}
@@ -132,7 +134,7 @@ named-event (v ∷ vs) name d e = pick (named-event vs name d) (bytes_eq v.name 
     pick deeper true t f = let same : v ≡ d = cc in ap (λ x. x.name) (sym same) ∙ (bytes_eq-Decides v.name name).0 t
     pick deeper false t f = deeper f
 
-sent-event : (project : Project) (name : Name) → has_event project name ≡ true → event_numbered project (event_place project name) ≡ named name
+sent-event : (project : Project) (name : Name) → has_event project name ≡ true → event_of project (event_place project name) ≡ named name
 sent-event project name e =
     let found = event-name (find (λ event. bytes_eq event.name name) project.events) e in
     let at = sym (find_at (λ event. bytes_eq event.name name) project.events) ∙ found.1 in
@@ -144,7 +146,7 @@ unfolding step
 step-emit program cells bits line place name ss = refl
 
 core_step-send : (program : CoreProgram) (cells : List ℤ) (bits : List Bool) (line n : ℕ) (ss : CoreStmts)
-    → core_step program (core_going cells bits (core_stmts (core_stmt line (send n 0 0)) ss)) ≡ record { state = core_going cells bits ss; report = Some (sent (event_numbered program.project n) []) }
+    → core_step program (core_going cells bits (core_stmts (core_stmt line (send n 0 0)) ss)) ≡ record { state = core_going cells bits ss; report = Some (sent (event_of program.project n) []) }
 unfolding core_step
 core_step-send program cells bits line n ss = refl
 

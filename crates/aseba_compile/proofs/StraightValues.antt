@@ -10,9 +10,8 @@ use Rattle.aseba_words.specs.declared.operators.Binary.TheVariants.{Add, Sub}
 use Rattle.aseba_tree.specs.Code.{Name, Place, expr, Form, number, whole, index, range, items, one, two, Sized, Const}
 use Rattle.aseba_tree.specs.Value.{Cells, cells_of, form_elements}
 use Rattle.aseba_tree.specs.State.{Program}
-use Rattle.aseba_tree.specs.Core.{CoreExpr, fixed, cell, infix_of}
-use Rattle.aseba_tree.specs.CoreStep.{core_value, address_of}
-use Rattle.aseba_tree.specs.Layout.{variables}
+use Rattle.aseba_tree.specs.CoreExpr.{CoreExpr, fixed, cell, infix_of, core_value}
+use Rattle.aseba_tree.specs.Layout.{address_of, variables}
 use Rattle.aseba_tree.proofs.SizeLaws.{both_left, both_right}
 use Rattle.aseba_tree.specs.Elements.{variable_place, elements_of_form}
 use Rattle.aseba_compile.specs.Straight.{has_one_cell, adds, is_sum_form}

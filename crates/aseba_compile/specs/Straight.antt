@@ -5,12 +5,13 @@ use Rattle.aseba_words.specs.declared.operators.Binary.{Binary}
 use Rattle.aseba_words.specs.declared.operators.Binary.TheVariants.{Add, Sub}
 use Rattle.aseba_tree.specs.Code.{Name, Expr, expr, Form, number, whole, two, Part, all, Stmt, stmt, StmtForm, assign, emit, Stmts, no_stmts, stmts, Handler, Sized, Project}
 use Rattle.aseba_tree.specs.State.{Program, init_code}
-use Rattle.aseba_tree.specs.Layout.{variables, cells_of_variables}
-use Rattle.aseba_tree.specs.Core.{CoreStmt, core_stmt, CoreForm, store, send, go_back, CoreStmts, no_core, core_stmts, Core, into}
-use Rattle.aseba_tree.specs.CoreStep.{CoreProgram, address_of}
+use Rattle.aseba_tree.specs.Layout.{variables, cells_of_variables, address_of}
+use Rattle.aseba_tree.specs.CoreExpr.{into}
+use Rattle.aseba_tree.specs.Core.{CoreStmt, core_stmt, CoreForm, store, send, go_back, CoreStmts, no_core, core_stmts, Core}
+use Rattle.aseba_tree.specs.CoreStep.{CoreProgram}
 use Rattle.aseba_tree.specs.Elements.{variable_place, element_of}
 use Rattle.aseba_tree.specs.Numbers.{source_words, source_depth}
-use Rattle.aseba_codegen.specs.Agrees.{is_cell}
+use Rattle.aseba_tree.specs.Value.{is_cell}
 
 -- Names and numbers
 

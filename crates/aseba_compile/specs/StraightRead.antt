@@ -10,7 +10,8 @@ use Rattle.aseba_tree.specs.Code as tree
 use Rattle.aseba_tree.specs.Code.{Name}
 use Rattle.aseba_tree.specs.Layout as layouts
 use Rattle.aseba_tree.specs.View.{decl_view, stmt_view, handler_view, core_stmt_view, project_view}
-use Rattle.aseba_tree.specs.Core.{CoreExpr, fixed, cell, infix_of, into, CoreForm, store, send, go_back, CoreStmt, core_stmt}
+use Rattle.aseba_tree.specs.CoreExpr.{CoreExpr, fixed, cell, infix_of, into}
+use Rattle.aseba_tree.specs.Core.{CoreForm, store, send, go_back, CoreStmt, core_stmt}
 use Rattle.aseba_tree.specs.declared.source.Source.{Source}
 use Rattle.aseba_tree.specs.declared.project.Project.{Project}
 use Rattle.aseba_tree.specs.declared.core_tree.Core.{Core}

@@ -8,7 +8,8 @@ use Rattle.aseba_tree.specs.Soundness.{Sound}
 use Rattle.aseba_tree.specs.Line.{line_by}
 use Rattle.aseba_tree.specs.Numbers.{source_words, source_depth, source_weight}
 use Rattle.aseba_tree.specs.Lines.{run_of, lines_of, Paced}
-use Rattle.aseba_codegen.specs.Agrees.{is_cell, IsNode, HasNoError}
+use Rattle.aseba_tree.specs.Value.{is_cell}
+use Rattle.aseba_codegen.specs.Agrees.{IsNode, HasNoError}
 use Rattle.aseba_codegen.specs.Table.{layout_of, all_ticking, beginning, started, table_lines, table_beats}
 use Rattle.aseba_codegen.specs.Words.{code_words, code_lines}
 use Rattle.aseba_compile.specs.Standing.{MatchesSource}

@@ -4,12 +4,12 @@ use Rattle.std.specs.Str.{bytes_eq}
 use Rattle.std.proofs.lemmas.List.Sums.{sum_by-cons}
 use Rattle.std.proofs.lemmas.List.Elements.{All-head, All-tail}
 use Rattle.aseba_tree.specs.Inside.{InsideProject, InsideSized, named_cells}
-use Rattle.aseba_tree.specs.Layout.{Placed, placed_from}
+use Rattle.aseba_tree.specs.Layout.{Placed, placed_from, placed_named}
 use Rattle.aseba_tree.specs.View.{project_view, sized_view}
 use Rattle.aseba_tree.specs.declared.description.Sized.{Sized}
 use Rattle.aseba_tree.specs.declared.project.Project.{Project}
 use Rattle.aseba_vm.specs.State.{NamesInside}
-use Rattle.aseba_codegen.specs.Table.{placed_named, shape_of}
+use Rattle.aseba_codegen.specs.Table.{shape_of}
 
 -- a variable that is found lies inside
 abbrev IsIn : ℕ → Placed → Type 0

@@ -1,8 +1,7 @@
 -- Where a named variable lies.
 use Rattle.std.specs.Prelude.{List, Option, option_map}
 use Rattle.aseba_tree.specs.Code.{Name}
-use Rattle.aseba_tree.specs.Layout.{Placed}
-use Rattle.aseba_codegen.specs.Table.{placed_named}
+use Rattle.aseba_tree.specs.Layout.{Placed, placed_named}
 use Rattle.aseba_tools.specs.declared.node.Place.{Place}
 
 abbrev pub place_of : Placed → Place

@@ -4,7 +4,8 @@ ghost use Rattle.std.specs.Prelude.{◌≡◌, ◌∷◌, [], ◌++◌, map, sli
 ghost use Rattle.std.specs.Fmt.{signed_decimal};
 ghost use Rattle.aseba_tree.specs.Line.{blank_number, blank_cells, event_text, lines_text, told, sent, bounds, division, end};
 ghost use Rattle.aseba_vm.specs.declared.tick.Tick.TheVariants.{Sent};
-ghost use Rattle.aseba_codegen.specs.Table.{event_of, tick_reports, var_lines};
+ghost use Rattle.aseba_codegen.specs.Table.{tick_reports, var_lines};
+ghost use Rattle.aseba_tree.specs.Events.{event_of};
 ghost use Rattle.aseba_tree.specs.View.{project_view};
 ghost use Rattle.aseba_check.specs.Places.{placed_view};
 ghost use Rattle.aseba_tools.specs.SimText.{code_line, told_text};

@@ -12,7 +12,8 @@ use Rattle.aseba_tree.specs.Line.{named, report_text}
 use Rattle.aseba_tree.specs.Script.{arrives, sets}
 use Rattle.aseba_tree.specs.State.{Program, loaded, declared}
 use Rattle.aseba_tree.specs.Step.{step, next_line}
-use Rattle.aseba_tree.specs.Core.{fixed, cell, indirect, infix_of, into, CoreStmt, core_stmt, store, on_edge, loop, enter, use_native, CoreStmts, no_core, core_stmts, Core}
+use Rattle.aseba_tree.specs.CoreExpr.{fixed, cell, indirect, infix_of, into}
+use Rattle.aseba_tree.specs.Core.{CoreStmt, core_stmt, store, on_edge, loop, enter, use_native, CoreStmts, no_core, core_stmts, Core}
 use Rattle.aseba_tree.specs.CoreStep.{CoreProgram, core_step, core_loaded, core_next_line}
 use Rattle.aseba_tree.specs.Moves.{Move, steps, acts, Course, CoreCourse, moved, core_moved}
 use Rattle.aseba_tree.proofs.Written.{num, name, list, st, decl, onevent, project, program, x, ping, ex, spot, block}
@@ -47,7 +48,7 @@ abbrev core_block : List CoreStmt → CoreStmts
 core_block [] = no_core
 core_block (s ∷ ss) = core_stmts s (core_block ss)
 
-abbrev do_store : ℕ → ℕ → Rattle.aseba_tree.specs.Core.CoreExpr → CoreStmt
+abbrev do_store : ℕ → ℕ → Rattle.aseba_tree.specs.CoreExpr.CoreExpr → CoreStmt
 do_store line address e = core_stmt line (store (into address) e)
 
 abbrev some_steps : ℕ → List Move

@@ -10,12 +10,11 @@ use Rattle.aseba_words.specs.declared.operators.Binary.{Binary}
 use Rattle.aseba_tree.specs.Code.{Name, Place, Expr, expr, Form, number, whole, index, range, items, one, two, Exprs, no_exprs, exprs, Const, Sized}
 use Rattle.aseba_tree.specs.Value.{as_place, constant}
 use Rattle.aseba_tree.specs.State.{Program}
-use Rattle.aseba_tree.specs.Core.{CoreExpr, cell, prefix}
-use Rattle.aseba_tree.specs.CoreStep.{address_from}
+use Rattle.aseba_tree.specs.CoreExpr.{CoreExpr, cell, prefix}
+use Rattle.aseba_tree.specs.Layout.{address_from, variables}
 use Rattle.aseba_tree.specs.Spells.{first_of}
 use Rattle.aseba_tree.specs.Sizes.{Known, Scope, variable_of, constant_value, is_constant, is_of_one_cell, common_size, added_size, range_size, name_size, unary_size, size_of, form_size, list_size, variable_size}
 use Rattle.aseba_tree.specs.Faults.{first_scope, world_of, fault_if, unknown, not_constant, not_scalar, bad_size, index_out, is_more_than_one, unknown_variable, is_known, index_outside, backwards, constant_place, bad_range, zero_divisions, sizes_differ, expr_faults, form_faults, list_faults, bad_operand, bad_operands}
-use Rattle.aseba_tree.specs.Layout.{variables}
 use Rattle.aseba_tree.specs.Elements.{variable_place, named_elements, range_elements, paired_elements, elements_of, elements_of_form, elements_of_list}
 use Rattle.aseba_tree.specs.Shape.{is_filled, is_filled_form, are_filled, is_some_exprs}
 use Rattle.aseba_tree.specs.SoundLaws.{HasCells, SoundHasElements}

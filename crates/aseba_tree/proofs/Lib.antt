@@ -5,6 +5,7 @@ pub mod FaultRows
 pub mod NumberRows
 pub mod Robot
 pub mod Rows
+pub mod ScriptRows
 pub mod SizeLaws
 pub mod SoundProofs
 pub mod SpellLaws

@@ -8,7 +8,8 @@ use Rattle.aseba_words.specs.declared.operators.Binary.TheVariants.{Below}
 use Rattle.aseba_tree.specs.Code.{Name, Place, Expr, expr, number, whole, index, range, items, one, two, Exprs, no_exprs, exprs, all, at, span, Target, stmt, StmtForm, assign, change, bump, if_then, when_do, for_do, emit, callsub, call, Stmts, no_stmts, stmts, Decl, Handler, Sized, Local, Native, Const, Project}
 use Rattle.aseba_tree.specs.State.{Program}
 use Rattle.aseba_tree.specs.Soundness.{subroutine_far, refusal, Sound}
-use Rattle.aseba_tree.specs.Core.{CoreExpr, fixed, cell, into, CoreStmt, core_stmt, store, no_core, core_stmts, Core}
+use Rattle.aseba_tree.specs.CoreExpr.{CoreExpr, fixed, cell, into}
+use Rattle.aseba_tree.specs.Core.{CoreStmt, core_stmt, store, no_core, core_stmts, Core}
 use Rattle.aseba_tree.specs.CoreNumbers.{core_words, core_depth, core_weight}
 use Rattle.aseba_tree.specs.CoreShape.{is_good_list}
 use Rattle.aseba_tree.specs.Layout.{cells_of_variables}

@@ -1,20 +1,6 @@
 -- A source in element form as the definitions see it: each store is of one cell, and names are addresses.
-use Rattle.std.specs.Prelude.{ℕ, ℤ, List, Option}
-use Rattle.aseba_words.specs.declared.operators.Unary.{Unary}
-use Rattle.aseba_words.specs.declared.operators.Binary.{Binary}
-
--- An expression of one cell: a number, the cell of an address, a cell of a variable at an address with its size and an index, or an operator.
-pub data CoreExpr : Type 0 where
-  fixed : ℤ → CoreExpr
-  cell : ℕ → CoreExpr
-  indirect : (base size : ℕ) → CoreExpr → CoreExpr
-  prefix : Unary → CoreExpr → CoreExpr
-  infix_of : Binary → CoreExpr → CoreExpr → CoreExpr
-
--- the one cell that a store means
-pub data CoreTarget : Type 0 where
-  into : ℕ → CoreTarget
-  into_index : (base size : ℕ) → CoreExpr → CoreTarget
+use Rattle.std.specs.Prelude.{ℕ, List, Option}
+use Rattle.aseba_tree.specs.CoreExpr.{CoreExpr, CoreTarget}
 
 -- A statement with its source line. `send` has an event's number, an address and a length; `enter` a subroutine's place among the parts;
 -- `use_native` a native's number, the addresses of its arguments and then the lengths of its templates.

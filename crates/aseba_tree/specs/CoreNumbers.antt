@@ -1,7 +1,8 @@
 -- The numbers of a core's own statements, each counted as the row of plain code that it is.
 use Rattle.std.specs.Prelude.{ℕ, zero, suc, ◌+◌, ◌*◌, max, nat_le, is_some, Bool, not, if◌then◌else◌, pos, List, [], ◌∷◌, length, map, take, drop, sum_by, filter, slice_get, Option, Some, None, option_map, unwrap_or}
 use Rattle.aseba_tree.specs.Code.{Project}
-use Rattle.aseba_tree.specs.Core.{CoreExpr, CoreTarget, into, into_index, CoreStmt, core_stmt, CoreForm, store, branch, on_edge, loop, send, enter, use_native, go_back, CoreStmts, no_core, core_stmts, CorePart, Core}
+use Rattle.aseba_tree.specs.CoreExpr.{CoreExpr, CoreTarget, into, into_index}
+use Rattle.aseba_tree.specs.Core.{CoreStmt, core_stmt, CoreForm, store, branch, on_edge, loop, send, enter, use_native, go_back, CoreStmts, no_core, core_stmts, CorePart, Core}
 use Rattle.aseba_tree.specs.Numbers.{greatest, number_words, words, depth, nodes, condition_words, condition_depth, jump_words}
 
 -- the number of parameters of a native

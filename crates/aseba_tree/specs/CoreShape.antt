@@ -3,7 +3,11 @@ use Rattle.std.specs.Prelude.{ℕ, zero, suc, ◌+◌, ◌-◌, ◌≤◌, nat_e
 use Rattle.std.specs.List.{list_all, list_any, position_or_len, range_with_len}
 use Rattle.std.specs.Ordering.{int_eq}
 use Rattle.aseba_tree.specs.Code.{Project}
-use Rattle.aseba_tree.specs.Core.{CoreExpr, fixed, cell, indirect, prefix, infix_of, CoreTarget, into, into_index, CoreStmt, core_stmt, CoreForm, store, branch, on_edge, loop, send, enter, use_native, go_back, CoreStmts, no_core, core_stmts, CorePart, Core}
+use Rattle.aseba_tree.specs.CoreExpr.{CoreExpr, fixed, cell, indirect, prefix, infix_of, CoreTarget, into, into_index}
+use Rattle.aseba_tree.specs.Core.{CoreStmt, core_stmt, CoreForm, store, branch, on_edge, loop, send, enter, use_native, go_back, CoreStmts, no_core, core_stmts, CorePart, Core}
+use Rattle.aseba_tree.specs.Events.{is_event_number}
+use Rattle.aseba_tree.specs.CoreCells.{core_has_cells}
+use Rattle.aseba_tree.specs.CoreLines.{core_is_lined}
 use Rattle.aseba_tree.specs.Numbers.{is_large}
 use Rattle.aseba_tree.specs.CoreNumbers.{core_words, core_depth, core_starts}
 
@@ -101,10 +105,7 @@ abbrev mutual
 
 -- Parts
 
--- the number of a global event is its place, and that of a local one 0xFFFE minus its place
-abbrev pub is_event_number : Project → ℕ → Bool
-is_event_number project n = nat_lt n (length project.events) || nat_le n 0xFFFE && nat_lt (0xFFFE - n) (length project.node.locals)
-
+-- the numbers of the events that a core handles
 abbrev pub handled : Core → List ℕ
 handled core = flat_map (λ part. option_to_list part.event) core.parts
 
@@ -146,6 +147,8 @@ pub record IsCore (project : Project) (core : Core) : Type 0 where
   pub has_depth : core_depth core ≤ core.depth
   pub has_room : core.cells + core.room ≤ project.node.cells
   pub is_good : IsTrue (is_good_list project core [] core.init && list_all (λ part. is_good_list project core [] part.body) core.parts)
+  pub numbers : IsTrue (core_has_cells core)
+  pub lined : IsTrue (core_is_lined core)
   pub handles_events : IsTrue (list_all (is_event_number project) (handled core) && are_distinct (handled core))
   pub ends : IsTrue (has_no_cycle core)
   pub is_near : IsTrue (is_large project) → IsTrue (list_all (λ start. nat_le start 4095) (core_starts project core))

@@ -7,21 +7,10 @@ use Rattle.aseba_tree.specs.Code.{Name, Sized, Project}
 use Rattle.aseba_tree.specs.Line.{Event, named, numbered, Report, began, ignored, dropped, killed, sent}
 use Rattle.aseba_tree.specs.Value.{Stop, by_zero, Element, and_then, place_among, unary_element, binary_element}
 use Rattle.aseba_tree.specs.Step.{applied_cells, stop_report}
-use Rattle.aseba_tree.specs.Core.{CoreExpr, fixed, cell, indirect, prefix, infix_of, CoreTarget, into, into_index, CoreStmt, core_stmt, CoreForm, store, branch, on_edge, loop, send, enter, use_native, go_back, CoreStmts, no_core, core_stmts, CorePart, Core}
-
--- the value of an expression where the cells have these addresses
-abbrev pub core_value : List ℤ → CoreExpr → Element
-core_value cells (fixed v) = Ok v
-core_value cells (cell address) = Ok (slice_index_or cells address (pos 0))
-core_value cells (indirect base size e) =
-    and_then (core_value cells e) (λ i. and_then (place_among size i) (λ place. Ok (slice_index_or cells (base + place) (pos 0))))
-core_value cells (prefix op e) = unary_element op (core_value cells e)
-core_value cells (infix_of op l r) = binary_element op (core_value cells l) (core_value cells r)
-
--- the address that a target means, or the stop of its index
-abbrev pub target_address : List ℤ → CoreTarget → Result ℕ Stop
-target_address cells (into address) = Ok address
-target_address cells (into_index base size e) = and_then (core_value cells e) (λ i. and_then (place_among size i) (λ place. Ok (base + place)))
+use Rattle.aseba_tree.specs.Events.{event_number, event_of}
+use Rattle.aseba_tree.specs.Layout.{address_of}
+use Rattle.aseba_tree.specs.CoreExpr.{core_value, target_address, CoreExpr, fixed, cell, indirect, prefix, infix_of, CoreTarget, into, into_index}
+use Rattle.aseba_tree.specs.Core.{CoreStmt, core_stmt, CoreForm, store, branch, on_edge, loop, send, enter, use_native, go_back, CoreStmts, no_core, core_stmts, CorePart, Core}
 
 -- how many `when`s a text holds
 abbrev mutual
@@ -108,17 +97,6 @@ core_edge line s which (Err stop) body = core_stopped line s stop
 core_edge line s which (Ok v) body =
     core_going_on (record s { bits = slice_set s.bits which (is_true v) }) (if is_true v && not (slice_index_or s.bits which false) then body else [])
 
--- the event of a number: by its name where the project has it
-abbrev pub event_numbered : Project → ℕ → Event
-event_numbered project n = unwrap_or (option_map (λ event. named event.name) (slice_get project.events n)) (numbered n)
-
--- the number of an event: a global one's place, and 0xFFFE minus a local one's
-abbrev pub event_number : Project → Event → Option ℕ
-event_number project (numbered n) = Some n
-event_number project (named name) =
-    option_or (position (λ event. bytes_eq event.name name) project.events)
-    (option_map (λ i. 0xFFFE - i) (position (λ event. bytes_eq event.name name) project.node.locals))
-
 -- how many `when`s stand before the part of a place
 abbrev pub whens_before : Core → ℕ → ℕ
 whens_before core which = core_list_whens core.init + sum_by (λ part. core_list_whens part.body) (take which core.parts)
@@ -157,7 +135,7 @@ core_performed program s before line (on_edge c body) = core_edge line s before 
 core_performed program s before line (loop c body) =
     core_tested line s (core_value s.cells c) (core_tasks before body ++ turn_core (perform_core before (core_stmt line (loop c body))) ∷ []) []
 core_performed program s before line (send event address length) =
-    record { state = s; report = Some (sent (event_numbered program.project event) (slice_range s.cells address (address + length))) }
+    record { state = s; report = Some (sent (event_of program.project event) (slice_range s.cells address (address + length))) }
 core_performed program s before line (enter which) = core_going_on s (entered program.core which (slice_get program.core.parts which))
 core_performed program s before line (use_native id values) = core_after_native line s (core_native id values s.cells)
 core_performed program s before line go_back = core_returned s (behind_back_core s.work)
@@ -211,14 +189,6 @@ abbrev pub core_next_line : CoreState → ℕ
 core_next_line s = core_work_line s.work
 
 -- Loading, writes and arrivals
-
--- the address of a variable, and its size, where the first of these has that address
-abbrev pub address_from : ℕ → List Sized → Name → Option (ℕ × ℕ)
-address_from base [] name = None
-address_from base (v ∷ vs) name = if bytes_eq v.name name then Some (base, v.size) else address_from (base + v.size) vs name
-
-abbrev pub address_of : List Sized → Name → Option (ℕ × ℕ)
-address_of variables name = address_from 0 variables name
 
 -- cells with values put in place from an address on
 abbrev pub put_from : {A : Type 0} → List A → ℕ → List A → List A

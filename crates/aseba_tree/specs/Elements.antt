@@ -6,9 +6,8 @@ use Rattle.aseba_tree.specs.Code.{Name, Expr, expr, Form, number, whole, index, 
 use Rattle.aseba_tree.specs.Value.{as_place, from_to, constant}
 use Rattle.aseba_tree.specs.State.{Program}
 use Rattle.aseba_tree.specs.Step.{target_expr}
-use Rattle.aseba_tree.specs.Core.{CoreExpr, fixed, cell, indirect, prefix, infix_of}
-use Rattle.aseba_tree.specs.CoreStep.{address_of}
-use Rattle.aseba_tree.specs.Layout.{variables}
+use Rattle.aseba_tree.specs.CoreExpr.{CoreExpr, fixed, cell, indirect, prefix, infix_of}
+use Rattle.aseba_tree.specs.Layout.{variables, address_of}
 
 -- the address and the size of a variable
 abbrev pub variable_place : Program → Name → Option (ℕ × ℕ)

@@ -1,11 +1,16 @@
 pub mod Arrival
 pub mod Code
 pub mod Core
+pub mod CoreCells
+pub mod CoreExpr
+pub mod CoreLines
 pub mod CoreNumbers
 pub mod CoreShape
 pub mod CoreStep
 pub mod Elements
+pub mod Events
 pub mod Faults
+pub mod GoodScript
 pub mod Inside
 pub mod Laws
 pub mod Layout

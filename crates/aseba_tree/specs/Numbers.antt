@@ -7,7 +7,7 @@ use Rattle.aseba_tree.specs.Code.{Name, Expr, expr, Form, whole, range, Exprs, n
 use Rattle.aseba_tree.specs.Value.{constant}
 use Rattle.aseba_tree.specs.State.{Program, init_code}
 use Rattle.aseba_tree.specs.Step.{step_of}
-use Rattle.aseba_tree.specs.Core.{CoreExpr, fixed, cell, indirect, prefix, infix_of}
+use Rattle.aseba_tree.specs.CoreExpr.{CoreExpr, fixed, cell, indirect, prefix, infix_of}
 use Rattle.aseba_tree.specs.Sizes.{is_of_one_cell}
 use Rattle.aseba_tree.specs.Elements.{variable_place, elements_of, changed_elements, bumped_elements, element_of, target_index}
 

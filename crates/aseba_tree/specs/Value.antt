@@ -1,5 +1,5 @@
 -- The value of an expression where the variables have these cells.
-use Rattle.std.specs.Prelude.{ℕ, ◌+◌, ◌-◌, ℤ, pos, negsuc, if◌then◌else◌, List, [], ◌∷◌, ◌++◌, map, length, slice_index_or, slice_set, nat_lt, bytes_eq, find, Option, Some, None, option_map, option_to_list, ok_or, Result, Ok, Err}
+use Rattle.std.specs.Prelude.{ℕ, ◌+◌, ◌-◌, ℤ, pos, negsuc, Bool, if◌then◌else◌, List, [], ◌∷◌, ◌++◌, map, length, slice_index_or, slice_set, nat_lt, bytes_eq, find, Option, Some, None, option_map, option_to_list, ok_or, Result, Ok, Err}
 use Rattle.std.specs.List.{range_with_len}
 use Rattle.std.specs.Option.{unwrap_or}
 use Rattle.aseba_words.specs.declared.operators.Unary.{Unary}
@@ -27,6 +27,11 @@ variable_cells vs name = unwrap_or (cells_of vs name) []
 abbrev pub put_cell : {A : Type 0} → Named A → Name → ℕ → A → Named A
 put_cell [] name i x = []
 put_cell (v ∷ vs) name i x = if bytes_eq v.0 name then (v.0, slice_set v.1 i x) ∷ vs else v ∷ put_cell vs name i x
+
+-- a number from -32768 to 32767, as a cell holds it
+abbrev pub is_cell : ℤ → Bool
+is_cell (pos n) = nat_lt n 32768
+is_cell (negsuc n) = nat_lt n 32768
 
 -- Why a handler stops: a division by zero, or an index that isn't from 0 to the variable's size minus 1.
 pub data Stop : Type 0 where

@@ -1,6 +1,7 @@
 -- The code's trees as the data of the definitions.
 use Rattle.std.specs.Prelude.{List, [], ◌∷◌, map, option_map}
 use Rattle.aseba_tree.specs.Code as tree
+use Rattle.aseba_tree.specs.CoreExpr as core_expr
 use Rattle.aseba_tree.specs.Core as core_tree
 use Rattle.aseba_tree.specs.declared.pos.Pos.{Pos}
 use Rattle.aseba_tree.specs.declared.expr.Expr.{Expr}
@@ -155,19 +156,19 @@ abbrev pub project_view : Project → tree.Project
 project_view p = record { node = description_view p.node; id = p.id; events = map sized_view p.events; consts = map const_view p.consts }
 
 -- Cores
-abbrev pub core_expr_step : CoreExpr-F core_tree.CoreExpr → core_tree.CoreExpr
-core_expr_step (CoreExpr-F.Number v) = core_tree.fixed v
-core_expr_step (CoreExpr-F.Cell a) = core_tree.cell a
-core_expr_step (CoreExpr-F.Indirect base size e) = core_tree.indirect base size e
-core_expr_step (CoreExpr-F.One op e) = core_tree.prefix op e
-core_expr_step (CoreExpr-F.Two op l r) = core_tree.infix_of op l r
+abbrev pub core_expr_step : CoreExpr-F core_expr.CoreExpr → core_expr.CoreExpr
+core_expr_step (CoreExpr-F.Number v) = core_expr.fixed v
+core_expr_step (CoreExpr-F.Cell a) = core_expr.cell a
+core_expr_step (CoreExpr-F.Indirect base size e) = core_expr.indirect base size e
+core_expr_step (CoreExpr-F.One op e) = core_expr.prefix op e
+core_expr_step (CoreExpr-F.Two op l r) = core_expr.infix_of op l r
 
-abbrev pub core_expr_view : CoreExpr → core_tree.CoreExpr
-core_expr_view = fold-CoreExpr core_tree.CoreExpr core_expr_step
+abbrev pub core_expr_view : CoreExpr → core_expr.CoreExpr
+core_expr_view = fold-CoreExpr core_expr.CoreExpr core_expr_step
 
-abbrev pub core_target_view : CoreTarget → core_tree.CoreTarget
-core_target_view (Cell a) = core_tree.into a
-core_target_view (Indirect base size e) = core_tree.into_index base size (core_expr_view e)
+abbrev pub core_target_view : CoreTarget → core_expr.CoreTarget
+core_target_view (Cell a) = core_expr.into a
+core_target_view (Indirect base size e) = core_expr.into_index base size (core_expr_view e)
 
 abbrev pub core_stmts_of : List core_tree.CoreStmt → core_tree.CoreStmts
 core_stmts_of [] = core_tree.no_core
