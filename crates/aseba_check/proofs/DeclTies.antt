@@ -14,7 +14,8 @@ use Rattle.aseba_check.specs.declared.fault.Rule.TheVariants as code
 use Rattle.aseba_check.specs.declared.fault.Fault.{Fault}
 use Rattle.aseba_check.specs.declared.facts.Meaning.{Meaning}
 use Rattle.aseba_check.specs.declared.facts.Meaning.TheVariants.{Variable}
-use Rattle.aseba_check.specs.Fits.{Fits, EachOption, EachDecl}
+use Rattle.aseba_tree.specs.Each.{EachOption, EachDecl}
+use Rattle.aseba_check.specs.Fits.{Fits}
 use Rattle.aseba_check.specs.Looked.{with_value}
 use Rattle.aseba_check.specs.Told as told
 use Rattle.aseba_check.specs.Told.{pos_of, facts_of}

@@ -13,12 +13,13 @@ use Rattle.aseba_tree.specs.Layout.{layout, cells_of_variables}
 use Rattle.aseba_tree.specs.Numbers.{is_large, jump_words, part_words, table_words, Start, starts_from}
 use Rattle.aseba_tree.specs.Shape.{decl_exprs, expr_count, stmts_exprs, stmts_count, IsTree}
 use Rattle.aseba_tree.specs.Sizes.{Scope}
-use Rattle.aseba_tree.specs.View.{project_view}
-use Rattle.aseba_tree.specs.Soundness.{Refusal, variables_full, subroutine_far, farthest, far_subroutine, refusal_by, refusal}
+use Rattle.aseba_tree.specs.View.{project_view, placed_view}
+use Rattle.aseba_tree.specs.Limits.{farthest}
+use Rattle.aseba_tree.specs.Soundness.{Refusal, variables_full, subroutine_far, far_subroutine, refusal_by, refusal}
 use Rattle.aseba_tree.proofs.SizeLaws.{nil_left, nil_right}
-use Rattle.aseba_check.specs.declared.checked.Placed.{Placed}
+use Rattle.aseba_tree.specs.declared.placed.Placed.{Placed}
 use Rattle.aseba_check.specs.Looked.{nothing}
-use Rattle.aseba_check.specs.Places.{placed_view, sum_up}
+use Rattle.aseba_check.specs.Places.{sum_up}
 use Rattle.aseba_check.specs.Refused.{far_view}
 use Rattle.aseba_check.specs.Statements.{Known}
 use Rattle.aseba_check.specs.Told.{pos_of}

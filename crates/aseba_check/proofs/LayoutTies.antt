@@ -6,7 +6,7 @@ use Rattle.std.specs.List.{list_all}
 use Rattle.aseba_tree.specs.declared.description.Sized as code_sized
 use Rattle.aseba_tree.specs.declared.decl.Decl as code_decl
 use Rattle.aseba_tree.specs.Code.{Name, Expr, Decl, Sized, Const}
-use Rattle.aseba_tree.specs.View.{sized_view, decl_view}
+use Rattle.aseba_tree.specs.View.{sized_view, decl_view, placed_view}
 use Rattle.aseba_tree.specs.Shape.{is_filled, decl_exprs}
 use Rattle.aseba_tree.specs.Sizes.{Scope, constant_value}
 use Rattle.aseba_tree.specs.SoundLaws.{HasCells}
@@ -17,10 +17,11 @@ use Rattle.aseba_tree.specs.Layout as layout
 use Rattle.aseba_tree.proofs.SizeLaws.{EachKnown, nil_left, nil_right}
 use Rattle.aseba_tree.proofs.SoundProofs.{all_left, all_right, one_more, decl_has_cells}
 use Rattle.aseba_tree.proofs.ConstantLaws.{constant_is_value}
-use Rattle.aseba_check.specs.Fits.{Fits, EachDecl}
+use Rattle.aseba_tree.specs.Each.{EachDecl}
+use Rattle.aseba_check.specs.Fits.{Fits}
 use Rattle.aseba_check.specs.Declarations as walk
 use Rattle.aseba_check.specs.Declarations.{Names}
-use Rattle.aseba_check.specs.Places.{placed_view, AreInOrder, sum_up, node_cells, declared_cells, address, placed_at, placed_variables, placed_decls}
+use Rattle.aseba_check.specs.Places.{AreInOrder, sum_up, node_cells, declared_cells, address, placed_at, placed_variables, placed_decls}
 use Rattle.aseba_check.proofs.Within.{IsUpTo}
 use Rattle.aseba_check.proofs.ExprTies.{limit, Describes}
 use Rattle.aseba_check.proofs.WalkTies.{total, under-append, usable-option}

@@ -17,7 +17,8 @@ use Rattle.aseba_tree.specs.Sizes.{Known, variable_of, constant_of}
 use Rattle.aseba_tree.specs.Faults.{expr_faults, list_faults, argument_count}
 use Rattle.aseba_tree.specs.Elements.{variable_place, elements_of}
 use Rattle.aseba_tree.specs.Shape.{is_filled, are_filled}
-use Rattle.aseba_tree.specs.Numbers.{number_words, is_own, fresh_elements, fresh_of_list, lengths, template_lengths}
+use Rattle.aseba_tree.specs.Numbers.{number_words, is_own, fresh_elements, fresh_of_list, lengths}
+use Rattle.aseba_tree.specs.Templates.{template_lengths}
 use Rattle.aseba_tree.proofs.SizeLaws.{EachKnown, nil_left, nil_right, both_left, both_right}
 use Rattle.aseba_tree.proofs.ElementLaws.{laid_scope}
 use Rattle.aseba_check.specs.declared.facts.Meaning.{Meaning}
@@ -159,7 +160,7 @@ moved names pre p ps g es =
 
 -- the lengths behind one parameter and its argument
 abbrev tails : Bool → Bool → ℕ → List ℕ → List ℕ → List ℕ
-tails negative seen n old new = if negative then (if seen then old else n ∷ new) else old
+tails negative seen n old new = if negative && not seen then n ∷ new else old
 
 -- what is given behind the first argument, where what follows is known
 after : (names : Name → Option Meaning) (before : List ℤ) (pre : List Param) (p : Param) (ps : List Param) (es : Exprs) (front fresh rest : List CoreExpr) (a t w n long : ℕ) (lens : List ℕ) → Opened before pre

@@ -12,7 +12,7 @@ use Rattle.aseba_tree.specs.declared.description.Sized as code_sized
 use Rattle.aseba_tree.specs.declared.project.Project as code_project
 use Rattle.aseba_tree.specs.Code.{Name, Source, Sized, no_stmts, Expr}
 use Rattle.aseba_tree.specs.State.{Program, declared as declared_variables}
-use Rattle.aseba_tree.specs.View.{sized_view, native_view, project_view}
+use Rattle.aseba_tree.specs.View.{sized_view, native_view, project_view, placed_view}
 use Rattle.aseba_tree.specs.Sizes.{Known, Scope, constant_of}
 use Rattle.aseba_tree.specs.Faults as tree
 use Rattle.aseba_tree.specs.Inside.{InsideSized, InsideProject}
@@ -24,9 +24,8 @@ use Rattle.aseba_tree.proofs.SizeLaws.{EachKnown}
 use Rattle.aseba_tree.proofs.SoundProofs.{sound_is_faultless, sound_variables, all_left}
 use Rattle.aseba_tree.proofs.ConstantLaws.{known, same_consts, sound_is_laid_out}
 use Rattle.aseba_tree.proofs.ElementLaws.{laid_scope}
-use Rattle.aseba_check.specs.declared.checked.Placed.{Placed}
+use Rattle.aseba_tree.specs.declared.placed.Placed.{Placed}
 use Rattle.aseba_check.specs.Declarations.{Names, declared}
-use Rattle.aseba_check.specs.Places.{placed_view}
 use Rattle.aseba_check.specs.Walk.{first_names}
 use Rattle.aseba_check.specs.CountedPlaces.{with_places, SizesFit, known_at, NumbersFit}
 use Rattle.aseba_check.proofs.ExprTies.{Describes, meaning_of}

@@ -15,7 +15,8 @@ use Rattle.aseba_tree.specs.Sizes.{is_of_one_cell, size_of, target_size}
 use Rattle.aseba_tree.specs.Faults.{fault_if, unknown, unknown_variable, bad_index, not_one_cell, expr_faults, list_faults, target_faults, part_faults, cell_faults, head_faults, global_event, stmt_form_faults, stmts_faults}
 use Rattle.aseba_tree.specs.Elements.{elements_of, target_elements, changed_elements, bumped_elements, element_of, target_index}
 use Rattle.aseba_tree.specs.Shape.{is_filled, list_depth, form_list_depth, expr_count, form_count, list_count, to_list, part_exprs, form_exprs, stmts_exprs, inner_count, stmts_count}
-use Rattle.aseba_tree.specs.Numbers.{number_words, words, depth, condition_words, condition_depth, all_words, greatest_depth, assigned_words, assigned_depth, assigned_room, is_own, fresh_elements, fresh_of_list, lengths, template_lengths, param_sizes, given_lengths, is_large, jump_words, else_words, form_words, stmts_words, form_depth, stmts_depth, form_room, stmts_room}
+use Rattle.aseba_tree.specs.Numbers.{number_words, words, depth, condition_words, condition_depth, all_words, greatest_depth, assigned_words, assigned_depth, assigned_room, is_own, fresh_elements, fresh_of_list, lengths, param_sizes, given_lengths, is_large, jump_words, else_words, form_words, stmts_words, form_depth, stmts_depth, form_room, stmts_room}
+use Rattle.aseba_tree.specs.Templates.{template_lengths}
 use Rattle.aseba_tree.proofs.SizeLaws.{nil_left, nil_right, both_left, both_right}
 use Rattle.aseba_tree.proofs.ElementLaws.{laid_scope, expr_is_long}
 use Rattle.aseba_check.specs.Statements.{Known as Meanings}
@@ -122,7 +123,7 @@ else-small program (stmts s ss) n = let j = jump-small program in omega arith
 
 -- Templates
 
-few-more : (b c : Bool) (n m : ℕ) (old new : List ℕ) → length old ≤ m → length new ≤ m → length (if b then (if c then old else n ∷ new) else old) ≤ suc m
+few-more : (b c : Bool) (n m : ℕ) (old new : List ℕ) → length old ≤ m → length new ≤ m → length (if b && not c then n ∷ new else old) ≤ suc m
 few-more false c n m old new h k = omega arith
 few-more true true n m old new h k = omega arith
 few-more true false n m old new h k = omega arith

@@ -9,16 +9,15 @@ use Rattle.aseba_tree.specs.Code.{Name, Expr, Decl, Handler, Source}
 use Rattle.aseba_tree.specs.State.{Program}
 use Rattle.aseba_tree.specs.Sizes.{Scope}
 use Rattle.aseba_tree.specs.Inside.{InsideSized, InsideProject}
-use Rattle.aseba_tree.specs.View.{project_view}
+use Rattle.aseba_tree.specs.View.{project_view, placed_view}
 use Rattle.aseba_tree.specs.Layout.{layout}
 use Rattle.aseba_tree.specs.Faults.{World, stmts_faults, parts_faults, decls_faults, recursion_faults, sub_calls, first_scope, world_of, faults}
 use Rattle.aseba_tree.specs.Shape.{is_filled, expr_count, decl_exprs, stmts_exprs, source_exprs, stmts_count, IsTree}
 use Rattle.aseba_tree.specs.Numbers.{greatest, jump_words, stmts_depth, stmts_room, part_words, source_words, source_depth, source_room, depth_of_sub}
 use Rattle.aseba_tree.proofs.SizeLaws.{nil_left, nil_right}
 use Rattle.aseba_tree.proofs.ElementLaws.{laid_scope}
-use Rattle.aseba_check.specs.declared.checked.Placed.{Placed}
+use Rattle.aseba_tree.specs.declared.placed.Placed.{Placed}
 use Rattle.aseba_check.specs.Statements.{Known as Meanings}
-use Rattle.aseba_check.specs.Places.{placed_view}
 use Rattle.aseba_check.specs.CountedPlaces.{known_at, NumbersFit}
 use Rattle.aseba_check.specs.CountedParts as whole
 use Rattle.aseba_check.proofs.ExprTies.{limit}

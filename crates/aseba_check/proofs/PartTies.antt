@@ -11,7 +11,8 @@ use Rattle.aseba_tree.specs.Faults as tree
 use Rattle.aseba_tree.specs.Shape.{stmts_exprs}
 use Rattle.aseba_check.specs.declared.fault.Rule.TheVariants as code
 use Rattle.aseba_check.specs.declared.fault.Fault.{Fault}
-use Rattle.aseba_check.specs.Fits.{Fits, EachPartOf}
+use Rattle.aseba_tree.specs.Each.{EachPartOf}
+use Rattle.aseba_check.specs.Fits.{Fits}
 use Rattle.aseba_check.specs.Looked.{nothing, with_value, first_value}
 use Rattle.aseba_check.specs.Told as told
 use Rattle.aseba_check.specs.Told.{pos_of}

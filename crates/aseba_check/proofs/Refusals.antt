@@ -13,17 +13,17 @@ use Rattle.aseba_tree.specs.Code.{Sized, Source}
 use Rattle.aseba_tree.specs.Inside.{InsideSized, InsideProject, named_cells}
 use Rattle.aseba_tree.specs.Shape.{decl_exprs, stmts_exprs, source_exprs, IsTree}
 use Rattle.aseba_tree.specs.State.{Program}
-use Rattle.aseba_tree.specs.View.{sized_view, source_view, project_view}
+use Rattle.aseba_tree.specs.View.{sized_view, source_view, project_view, placed_view}
 use Rattle.aseba_tree.specs.Layout as layout
 use Rattle.aseba_tree.specs.Soundness.{Refusal, broken, variables_full, refusal_by, refusal}
 use Rattle.aseba_tree.specs.Faults as tree
 use Rattle.aseba_tree.proofs.SizeLaws.{EachKnown, nil_left}
 use Rattle.aseba_tree.proofs.SoundProofs.{all_left}
-use Rattle.aseba_check.specs.declared.checked.Placed.{Placed}
+use Rattle.aseba_tree.specs.declared.placed.Placed.{Placed}
 use Rattle.aseba_check.specs.declared.fault.Fault.{Fault}
 use Rattle.aseba_check.specs.Told as told
 use Rattle.aseba_check.specs.Told.{fault_view}
-use Rattle.aseba_check.specs.Places.{placed_view, AreInOrder, node_cells, declared_cells, placed_variables, placed_decls}
+use Rattle.aseba_check.specs.Places.{AreInOrder, node_cells, declared_cells, placed_variables, placed_decls}
 use Rattle.aseba_check.specs.Walk.{first_names, source_sizes, rules_told, SourceFits}
 use Rattle.aseba_check.proofs.ExprTies.{Tells, join, limit}
 use Rattle.aseba_check.proofs.WalkTies.{total, under-append}

@@ -16,7 +16,8 @@ use Rattle.aseba_check.specs.declared.fault.Rule.TheVariants as code
 use Rattle.aseba_check.specs.declared.fault.Fault.{Fault}
 use Rattle.aseba_check.specs.declared.facts.Facts.{Facts}
 use Rattle.aseba_check.specs.declared.facts.Meaning.{Meaning}
-use Rattle.aseba_check.specs.Fits.{Fits, EachItem, EachOption, EachPart, EachHead}
+use Rattle.aseba_tree.specs.Each.{EachItem, EachOption, EachPart, EachHead}
+use Rattle.aseba_check.specs.Fits.{Fits}
 use Rattle.aseba_check.specs.Told as told
 use Rattle.aseba_check.specs.Told.{pos_of, facts_of}
 use Rattle.aseba_check.specs.Statements as walk

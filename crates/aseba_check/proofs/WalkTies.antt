@@ -13,7 +13,8 @@ use Rattle.aseba_tree.specs.Shape.{expr_count, list_count, to_list, part_exprs, 
 use Rattle.aseba_check.specs.declared.fault.Rule.TheVariants as code
 use Rattle.aseba_check.specs.declared.fault.Fault.{Fault}
 use Rattle.aseba_check.specs.declared.facts.Meaning.{Meaning}
-use Rattle.aseba_check.specs.Fits.{Fits, EachItem, EachOption, EachPart, EachStmt, EachForm, EachStmts}
+use Rattle.aseba_tree.specs.Each.{EachItem, EachOption, EachPart, EachStmt, EachForm, EachStmts}
+use Rattle.aseba_check.specs.Fits.{Fits}
 use Rattle.aseba_check.specs.Told as told
 use Rattle.aseba_check.specs.Told.{pos_of}
 use Rattle.aseba_check.specs.Statements as walk

@@ -5,9 +5,9 @@ use Rattle.aseba_tree.specs.Inside.{InsideProject}
 use Rattle.aseba_tree.specs.Layout.{layout, cells_of_variables}
 use Rattle.aseba_tree.specs.Shape.{IsTree}
 use Rattle.aseba_tree.specs.Soundness.{Sound}
-use Rattle.aseba_tree.specs.View.{source_view}
+use Rattle.aseba_tree.specs.View.{source_view, placed_view}
 use Rattle.aseba_check.specs.declared.checked.Checked.{Checked}
-use Rattle.aseba_check.specs.Places.{placed_view, AreInOrder}
+use Rattle.aseba_check.specs.Places.{AreInOrder}
 use Rattle.aseba_check.specs.Refused.{program_in}
 
 -- A check of a source in this project gave it: it keeps to the limits, nothing is wrong with the source, and its variables lie in the layout, one behind the

@@ -4,7 +4,7 @@ use Rattle.aseba_tree.specs.declared.project.Project.{Project}
 use Rattle.aseba_tree.specs.Numbers.{jump_words}
 use Rattle.aseba_tree.specs.View.{project_view}
 use Rattle.aseba_tree.specs.Code.{Name, Expr, Decl, Handler, Source, Stmt, stmt, StmtForm, if_then, when_do, while_do, for_do, callsub, Stmts, no_stmts, stmts}
-use Rattle.aseba_check.specs.declared.checked.Placed.{Placed}
+use Rattle.aseba_tree.specs.declared.placed.Placed.{Placed}
 use Rattle.aseba_check.specs.declared.counting.taken.Taken.{Taken}
 use Rattle.aseba_check.specs.Looked.{nothing, first_value}
 use Rattle.aseba_check.specs.Statements.{Known}

@@ -2,7 +2,7 @@
 use Rattle.std.specs.Prelude.{◌≤◌, List, [], ◌∷◌, Some}
 use Rattle.aseba_tree.specs.declared.project.Project.{Project}
 use Rattle.aseba_tree.specs.Code.{Handler}
-use Rattle.aseba_check.specs.declared.checked.Placed.{Placed}
+use Rattle.aseba_tree.specs.declared.placed.Placed.{Placed}
 use Rattle.aseba_check.specs.Declarations.{Names, ConstsFit, declared}
 use Rattle.aseba_check.specs.Statements.{Known}
 use Rattle.aseba_check.specs.Walk.{first_names, known_in}

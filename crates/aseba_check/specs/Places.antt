@@ -3,10 +3,7 @@ use Rattle.std.specs.Prelude.{◌≡◌, ℕ, ◌+◌, ◌-◌, ◌^◌, ◌≤�
 use Rattle.aseba_tree.specs.declared.description.Sized.{Sized}
 use Rattle.aseba_tree.specs.declared.decl.Decl.{Decl}
 use Rattle.aseba_tree.specs.Layout as tree
-use Rattle.aseba_check.specs.declared.checked.Placed.{Placed}
-
-abbrev pub placed_view : Placed → tree.Placed
-placed_view p = record { name = p.name; start = p.start; size = p.size }
+use Rattle.aseba_tree.specs.declared.placed.Placed.{Placed}
 
 -- Variables one behind the other, from an address on up to an end: each begins where the one before it ends, and has a cell.
 abbrev pub AreInOrder : ℕ → List tree.Placed → ℕ → Type 0

@@ -1,7 +1,7 @@
 -- Where the plain code of subroutines begins in a large project. Sums stop at a number that no source reaches.
 use Rattle.std.specs.Prelude.{ℕ, Bool, ◌&&◌, if◌then◌else◌, nat_lt, List, [], ◌∷◌, Option, Some, None}
 use Rattle.aseba_tree.specs.Code.{Handler}
-use Rattle.aseba_tree.specs.Soundness.{farthest}
+use Rattle.aseba_tree.specs.Limits.{farthest}
 use Rattle.aseba_check.specs.declared.far.Far.{Far}
 use Rattle.aseba_check.specs.CountedParts.{part_words}
 use Rattle.aseba_check.specs.Places.{sum_up}

@@ -5,7 +5,8 @@ use Rattle.aseba_tree.specs.Code.{Handler, Source}
 use Rattle.aseba_tree.specs.State.{Program}
 use Rattle.aseba_tree.specs.Faults as tree
 use Rattle.aseba_check.specs.declared.fault.Fault.{Fault}
-use Rattle.aseba_check.specs.Fits.{Fits, EachStmts, EachDecl, EachPartOf}
+use Rattle.aseba_tree.specs.Each.{EachStmts, EachDecl, EachPartOf}
+use Rattle.aseba_check.specs.Fits.{Fits}
 use Rattle.aseba_check.specs.Looked.{nothing}
 use Rattle.aseba_check.specs.Declarations.{Names, ConstsFit, with_consts, with_variables, all_declaring, decls_told, decl_sizes}
 use Rattle.aseba_check.specs.Statements.{Known, stmts_told}

@@ -1,7 +1,8 @@
 //! Calls of natives.
 ghost use Rattle.std.specs.Prelude.{◌≡◌, [], ◌∷◌, ◌++◌, None, IfOk, OnOk};
 ghost use Rattle.aseba_tree.specs.View.{exprs_view};
-ghost use Rattle.aseba_check.specs.Fits.{Fits, EachItem};
+ghost use Rattle.aseba_tree.specs.Each.{EachItem};
+ghost use Rattle.aseba_check.specs.Fits.{Fits};
 ghost use Rattle.aseba_check.specs.Looked.{looked};
 ghost use Rattle.std.specs.Option.{option_copied};
 ghost use Rattle.aseba_check.specs.Statements as told;

@@ -1,5 +1,5 @@
-use aseba_tree::Source;
-use aseba_words::{List, Name};
+use aseba_tree::{Placed, Source};
+use aseba_words::List;
 
 /// A source that keeps the rules of the language in its project.
 #[derive(Debug, Drop)]
@@ -9,12 +9,4 @@ pub struct Checked {
     pub places: List<Placed>,
     /// How many cells they take together.
     pub cells: u32,
-}
-
-/// A variable, with the address of its first cell and its number of cells.
-#[derive(Debug, Drop)]
-pub struct Placed {
-    pub name: Name,
-    pub start: u16,
-    pub size: u16,
 }

@@ -21,10 +21,10 @@ use aseba_words::{List, Mem};
 use std::alloc::Global;
 
 /// Checks a source in a project that keeps to the limits. A source that breaks no rule, whose
-/// variables have room in the node and each of whose subroutines can be called, comes back with
+/// variables have room in the node and each of whose subroutines a call can reach, comes back with
 /// the places of its variables. Of another one the error tells the first rule by place that is
 /// broken; where none is, that the variables have no room; and else the first subroutine that no
-/// call reaches.
+/// call can reach.
 pub fn check(alloc: Global, source: &Source, project: &Project) -> Result<Checked, CheckError>
     requires inside { InsideProject project.now }
     requires is_tree { IsTree (source_view source.now) }

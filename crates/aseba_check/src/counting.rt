@@ -20,12 +20,12 @@ mod taken;
 mod tests;
 mod total;
 
-use crate::checked::{Checked, Placed};
+use crate::checked::Checked;
 use crate::counting::names::placed_world;
 use crate::counting::parts::{jump_words, source_taken};
 use crate::counting::subs::sub_depths;
 use crate::counting::taken::Taken;
-use aseba_tree::{Project, Source};
+use aseba_tree::{Placed, Project, Source};
 use aseba_words::Mem;
 use std::alloc::Global;
 pub use total::Numbers;

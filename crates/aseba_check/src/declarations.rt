@@ -3,7 +3,8 @@ ghost use Rattle.std.specs.Prelude.{◌≡◌, [], ◌∷◌, ◌++◌, map, opt
 ghost use Rattle.std.specs.Int.{w16};
 ghost use Rattle.aseba_tree.specs.View.{expr_view, decl_view};
 ghost use Rattle.aseba_tree.specs.Faults.{size_in_range};
-ghost use Rattle.aseba_check.specs.Fits.{Fits, EachOption, EachDecl};
+ghost use Rattle.aseba_tree.specs.Each.{EachOption, EachDecl};
+ghost use Rattle.aseba_check.specs.Fits.{Fits};
 ghost use Rattle.aseba_check.specs.Looked.{looked, nothing};
 ghost use Rattle.aseba_check.specs.Declarations as told;
 

@@ -2,20 +2,18 @@
 ghost use Rattle.std.specs.Prelude.{◌≡◌, [], ◌≤◌, map, option_map, IfOk};
 ghost use Rattle.aseba_tree.specs.Inside.{InsideProject};
 ghost use Rattle.aseba_tree.specs.Shape.{IsTree};
-ghost use Rattle.aseba_tree.specs.View.{handler_view, source_view};
+ghost use Rattle.aseba_tree.specs.View.{handler_view, source_view, placed_view};
 ghost use Rattle.aseba_tree.specs.Faults as tree;
 ghost use Rattle.aseba_tree.specs.Layout.{layout, cells_of_variables};
 ghost use Rattle.aseba_tree.specs.Soundness.{refusal};
-ghost use Rattle.aseba_check.specs.Places.{placed_view};
 ghost use Rattle.aseba_check.specs.Refused.{program_in, far_view};
 ghost use Rattle.aseba_check.specs.Starts as told;
 ghost use Rattle.aseba_check.specs.Statements.{known_of};
 
-use crate::checked::Placed;
 use crate::counting::names::placed_world;
 use crate::counting::parts::{is_large, jump_words, part_words};
 use crate::world::World;
-use aseba_tree::{Handler, Pos, Project, Source};
+use aseba_tree::{Handler, Placed, Pos, Project, Source};
 use aseba_words::Mem;
 use std::alloc::Global;
 

@@ -2,8 +2,7 @@
 ghost use Rattle.std.specs.Prelude.{◌≡◌, [], ◌∷◌, ◌++◌, IfOk, OnOk, unwrap_or};
 ghost use Rattle.aseba_check.specs.Places as told;
 
-use crate::checked::Placed;
-use aseba_tree::{Decl, Sized};
+use aseba_tree::{Decl, Placed, Sized};
 use aseba_words::{List, Mem, Name};
 use std::alloc::Global;
 

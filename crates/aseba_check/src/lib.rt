@@ -23,7 +23,8 @@ mod sub_calls;
 mod table;
 mod world;
 
-pub use checked::{Checked, Placed};
+pub use aseba_tree::Placed;
+pub use checked::Checked;
 pub use checking::check;
 pub use counting::{Numbers, numbers};
 pub use error::CheckError;

@@ -1,7 +1,8 @@
 //! Handlers and subroutines, and the names that they give and use.
 ghost use Rattle.std.specs.Prelude.{◌≡◌, map, IfOk, OnOk};
 ghost use Rattle.aseba_tree.specs.View.{handler_view, stmts_view};
-ghost use Rattle.aseba_check.specs.Fits.{Fits, EachStmts, EachPartOf};
+ghost use Rattle.aseba_tree.specs.Each.{EachStmts, EachPartOf};
+ghost use Rattle.aseba_check.specs.Fits.{Fits};
 ghost use Rattle.aseba_check.specs.Looked.{looked, nothing};
 ghost use Rattle.aseba_check.specs.Statements.{known_of};
 ghost use Rattle.aseba_check.specs.Parts as told;

@@ -1,7 +1,8 @@
 //! The walk over statements. Each hands on the least of the faults so far.
 ghost use Rattle.std.specs.Prelude.{◌≡◌, option_map, IfOk, OnOk};
 ghost use Rattle.aseba_tree.specs.View.{expr_view, part_view, target_view, head_view, stmt_view, stmt_form_view, stmts_view};
-ghost use Rattle.aseba_check.specs.Fits.{Fits, EachOption, EachPart, EachHead, EachStmt, EachForm, EachStmts};
+ghost use Rattle.aseba_tree.specs.Each.{EachOption, EachPart, EachHead, EachStmt, EachForm, EachStmts};
+ghost use Rattle.aseba_check.specs.Fits.{Fits};
 ghost use Rattle.aseba_check.specs.Looked.{looked};
 ghost use Rattle.aseba_check.specs.Statements as told;
 

@@ -5,7 +5,7 @@ use Rattle.aseba_tree.specs.Code.{Project}
 use Rattle.aseba_tree.specs.CoreExpr.{into, into_index}
 use Rattle.aseba_tree.specs.Core.{core_stmt, CoreForm, store, branch, on_edge, loop, send, enter, use_native, go_back, CoreStmts, no_core, core_stmts, Core}
 use Rattle.aseba_tree.specs.CoreStep.{CoreTask, CoreProgram, core_tasks, core_whens, core_work_line}
-use Rattle.aseba_tree.specs.CoreNumbers.{core_form_depth, core_list_depth, kept_nodes, own_nodes, inner_weight, weight_or_kept, core_list_weight}
+use Rattle.aseba_tree.specs.CoreNumbers.{core_form_depth, core_list_depth, kept_nodes, own_nodes, inner_weight, weight_behind, kept_with, core_list_weight}
 use Rattle.aseba_tree.specs.CoreShape.{kept_at, is_last, is_good_form, is_good_list}
 use Rattle.aseba_tree.specs.Numbers.{nodes}
 use Rattle.aseba_codegen.specs.declared.coded.Coded.{Coded}
@@ -115,9 +115,10 @@ pub weight-least : (cells : ℕ) (ss : CoreStmts) (weighs : ℕ) → 3 ≤ core_
 weight-least cells no_core weighs = omega arith
 weight-least cells (core_stmts (core_stmt line form) ss) weighs = by_kept (kept_nodes cells form) (weight-least cells ss)
   where
-    by_kept : (o : Option ℕ) → ((w : ℕ) → 3 ≤ core_list_weight cells ss w) → 3 ≤ weight_or_kept weighs o form (inner_weight cells form) (core_list_weight cells ss)
+    by_kept : (o : Option ℕ) → ((w : ℕ) → 3 ≤ core_list_weight cells ss w)
+        → 3 ≤ max (max (weight_behind weighs o form) (inner_weight cells form)) (core_list_weight cells ss (kept_with weighs o))
     by_kept None ih = omega arith
-    by_kept (Some more) ih = ih (weighs + more)
+    by_kept (Some more) ih = omega arith
 
 module _ (program : CoreProgram) (code : List Coded) (weight : ℕ) (site : Site) (limit : ℕ) (subs : ℕ → ℕ) (rest : List CoreTask) where
   -- the line of what follows a store into a temporary
@@ -162,10 +163,12 @@ module _ (program : CoreProgram) (code : List Coded) (weight : ℕ) (site : Site
       let lined_rest : list_is_lined program.core.cells ss ≡ true = and-right (is_kept_on program.core.cells line form ss && form_is_lined program.core.cells form) (list_is_lined program.core.cells ss) lined in
       let on : (k : List ℕ) (w : ℕ) → is_good_list program.project program.core k ss ≡ true → core_list_weight program.core.cells ss w ≤ weight → (is_last ss ≡ true → w ≡ 0) → Placed program code weight limit (core_tasks (before + core_whens (core_stmt line form)) ss ++ rest) there k w =
       λ k w good_rest light_rest ends_rest. placed-list ss (before + core_whens (core_stmt line form)) there k w good_rest numbers_rest straight_rest lined_rest (omega arith) light_rest stands_rest ends_rest behind_rest in
+      let light_by : (o : Option ℕ) → kept_nodes program.core.cells form ≡ o
+          → max (max (weight_behind weighs o form) (inner_weight program.core.cells form)) (core_list_weight program.core.cells ss (kept_with weighs o)) ≤ weight =
+      λ o e. subst (λ o. max (max (weight_behind weighs o form) (inner_weight program.core.cells form)) (core_list_weight program.core.cells ss (kept_with weighs o)) ≤ weight) e light in
       elim (kept-case program.core line form) [
         | inl c ↦
-            let weighed : max (weighs + own_nodes form + 3) (max (inner_weight program.core.cells form) (core_list_weight program.core.cells ss 0)) ≤ weight =
-            subst (λ o. weight_or_kept weighs o form (inner_weight program.core.cells form) (core_list_weight program.core.cells ss) ≤ weight) c.1 light in
+            let weighed : max (max (weighs + own_nodes form + 3) (inner_weight program.core.cells form)) (core_list_weight program.core.cells ss 0) ≤ weight = light_by None c.1 in
             let good_rest : is_good_list program.project program.core kept ss ≡ true = subst (λ (o : Option ℕ). is_good_list program.project program.core (option_to_list o ++ kept) ss ≡ true) c.0 parts.rest_good in (
               fits (omega arith),
               λ some. absurd (some c.0),
@@ -173,8 +176,8 @@ module _ (program : CoreProgram) (code : List Coded) (weight : ℕ) (site : Site
                   (on kept 0 good_rest (omega arith) (λ last. refl)),
             )
         | inr c ↦
-            let weighed : core_list_weight program.core.cells ss (weighs + (own_nodes form + 1)) ≤ weight =
-            subst (λ o. weight_or_kept weighs o form (inner_weight program.core.cells form) (core_list_weight program.core.cells ss) ≤ weight) c.2 light in
+            let all_weighed : max (max 3 (inner_weight program.core.cells form)) (core_list_weight program.core.cells ss (weighs + (own_nodes form + 1))) ≤ weight = light_by (Some (own_nodes form + 1)) c.2 in
+            let weighed : core_list_weight program.core.cells ss (weighs + (own_nodes form + 1)) ≤ weight = omega arith in
             let some : is_last ss ≡ false = goes-on program.project program.core ss form c.0 parts.not_end c.1 in
             let above : weighs + (own_nodes form + 1) + 3 ≤ core_list_weight program.core.cells ss (weighs + (own_nodes form + 1)) =
             weight-above program.project program.core ss (option_to_list (kept_at program.core form) ++ kept) (weighs + (own_nodes form + 1)) parts.rest_good some in

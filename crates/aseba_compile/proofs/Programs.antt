@@ -9,8 +9,8 @@ use Rattle.aseba_codegen.specs.declared.coded.Coded.{Coded}
 use Rattle.aseba_codegen.specs.declared.image.Image.{Image}
 use Rattle.aseba_codegen.specs.Words.{core_code}
 use Rattle.aseba_codegen.proofs.Lengths.{code-long}
-use Rattle.aseba_check.specs.declared.checked.Placed.{Placed}
-use Rattle.aseba_check.specs.Places.{placed_view}
+use Rattle.aseba_tree.specs.declared.placed.Placed.{Placed}
+use Rattle.aseba_tree.specs.View.{placed_view}
 use Rattle.aseba_compile.specs.Compiled.{IsCodeOf, IsProgram}
 use Rattle.aseba_compile.specs.Straight.{straight_core}
 use Rattle.aseba_compile.specs.StraightRun.{Fits, straight_words, straight_lines}

@@ -8,18 +8,17 @@ use Rattle.aseba_tree.specs.declared.source.Source.{Source}
 use Rattle.aseba_tree.specs.declared.project.Project.{Project}
 use Rattle.aseba_tree.specs.declared.core_tree.Core.{Core}
 use Rattle.aseba_tree.specs.Code.{Name, Decl, Expr, Stmts}
-use Rattle.aseba_tree.specs.View.{const_view, decl_view, stmt_view, stmts_of, handler_view, project_view, source_view}
+use Rattle.aseba_tree.specs.View.{const_view, decl_view, stmt_view, stmts_of, handler_view, project_view, source_view, placed_view}
 use Rattle.aseba_tree.specs.View as view
 use Rattle.aseba_tree.specs.State.{assignment, in_front, init_code}
 use Rattle.aseba_tree.specs.Layout.{variables, layout}
 use Rattle.aseba_check.specs.declared.checked.Checked.{Checked}
-use Rattle.aseba_check.specs.declared.checked.Placed.{Placed}
+use Rattle.aseba_tree.specs.declared.placed.Placed.{Placed}
 use Rattle.aseba_check.specs.declared.counting.total.Numbers.{Numbers}
 use Rattle.aseba_check.specs.Accepted.{IsChecked}
 use Rattle.aseba_check.specs.CountedNumbers.{AreNumbers}
 use Rattle.aseba_compile.specs.declared.refusal.Refusal.{Refusal}
 use Rattle.aseba_compile.specs.declared.refusal.Refusal.TheVariants.{NotBuilt, Mem}
-use Rattle.aseba_check.specs.Places.{placed_view}
 use Rattle.aseba_check.specs.Refused.{program_in}
 use Rattle.aseba_compile.specs.Straight.{any, is_sum, has_no_parts, has_only_built_forms, is_straight_stmt, are_straight, has_one_cell_named}
 use Rattle.aseba_compile.specs.StraightRead.{nothing, with_constants, with_places, is_built_value, has_built_forms_in, source_meanings, values_in, stmts_in, places_of, init_in, IsBuiltCore, IsCoreIn}

@@ -5,7 +5,7 @@ use Rattle.aseba_tree.specs.State as tree
 use Rattle.aseba_tree.specs.Layout.{layout, cells_of_variables}
 use Rattle.aseba_tree.specs.Numbers.{source_words}
 use Rattle.aseba_tree.specs.Soundness.{Sound}
-use Rattle.aseba_check.specs.Places.{placed_view}
+use Rattle.aseba_tree.specs.View.{placed_view}
 use Rattle.aseba_compile.specs.declared.program.Program.{Program}
 use Rattle.aseba_compile.specs.declared.refusal.Refusal.{Refusal}
 use Rattle.aseba_compile.specs.declared.refusal.Refusal.TheVariants.{Lex, Syntax, Mem}

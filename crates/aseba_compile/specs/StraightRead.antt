@@ -9,14 +9,14 @@ use Rattle.aseba_tree.specs.declared.decl.Decl.{Decl}
 use Rattle.aseba_tree.specs.Code as tree
 use Rattle.aseba_tree.specs.Code.{Name}
 use Rattle.aseba_tree.specs.Layout as layouts
-use Rattle.aseba_tree.specs.View.{decl_view, stmt_view, handler_view, core_stmt_view, project_view}
+use Rattle.aseba_tree.specs.View.{decl_view, stmt_view, handler_view, core_stmt_view, project_view, placed_view}
 use Rattle.aseba_tree.specs.CoreExpr.{CoreExpr, fixed, cell, infix_of, into}
 use Rattle.aseba_tree.specs.Core.{CoreForm, store, send, go_back, CoreStmt, core_stmt}
 use Rattle.aseba_tree.specs.declared.source.Source.{Source}
 use Rattle.aseba_tree.specs.declared.project.Project.{Project}
 use Rattle.aseba_tree.specs.declared.core_tree.Core.{Core}
 use Rattle.aseba_check.specs.declared.checked.Checked.{Checked}
-use Rattle.aseba_check.specs.declared.checked.Placed.{Placed}
+use Rattle.aseba_tree.specs.declared.placed.Placed.{Placed}
 use Rattle.aseba_check.specs.declared.counting.total.Numbers.{Numbers}
 use Rattle.aseba_compile.specs.declared.refusal.Refusal.{Refusal}
 use Rattle.aseba_compile.specs.declared.refusal.Refusal.TheVariants.{NotBuilt, Mem}
@@ -24,7 +24,6 @@ use Rattle.aseba_compile.specs.declared.straight.events.Events.{Events}
 use Rattle.aseba_compile.specs.declared.straight.names.Names.{Names}
 use Rattle.aseba_compile.specs.declared.straight.names.Meaning.{Meaning}
 use Rattle.aseba_compile.specs.declared.straight.names.Meaning.TheVariants.{Variable, Constant}
-use Rattle.aseba_check.specs.Places.{placed_view}
 use Rattle.aseba_compile.specs.Straight.{any, has_no_parts, is_sum, is_straight_stmt}
 use Rattle.aseba_compile.specs.StraightRun.{HasCellConstants}
 

@@ -6,7 +6,8 @@ use Rattle.aseba_tree.specs.declared.token.Token.{Token}
 use Rattle.aseba_tree.specs.declared.token.Key.{Key}
 use Rattle.aseba_tree.specs.Code.{Source, Project}
 use Rattle.aseba_tree.specs.Spells.{Spells, Begins}
-use Rattle.aseba_tree.specs.Nest.{nests, Nested, deepest, TooDeepAt, SyntaxAt}
+use Rattle.aseba_tree.specs.Limits.{deepest}
+use Rattle.aseba_tree.specs.Nest.{nests, Nested, TooDeepAt, SyntaxAt}
 use Rattle.aseba_parser.specs.Reading.{Read, taken, wrong, deep, next, is_key, all_of, block_of, decl_read, stmts_read, begins_part, part_of, the_end, program_read}
 use Rattle.aseba_parser.specs.Parsed.{IsTreeOf, IsNestedWell, IsDecided, place_of}
 use Rattle.aseba_parser.proofs.Laws.{Means, first_above, outcome, IsLocalAt, IsLocal, Climbs}

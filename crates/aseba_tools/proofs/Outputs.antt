@@ -5,16 +5,15 @@ use Rattle.std.proofs.lemmas.List.Sums.{sum_by-cons}
 use Rattle.aseba_edge.specs.Sink.{Took, TookFirst}
 use Rattle.aseba_tree.specs.Code.{Sized, Project}
 use Rattle.aseba_tree.specs.declared.project.Project as code
-use Rattle.aseba_tree.specs.View.{project_view, sized_view}
+use Rattle.aseba_tree.specs.View.{project_view, sized_view, placed_view}
 use Rattle.aseba_tree.specs.Line.{sent, began, ignored, dropped, killed, was_set, division, bounds, Line, told, var, end, line_by, lines_text}
 use Rattle.aseba_tree.specs.Layout as tree
 use Rattle.aseba_tree.specs.Layout.{placed_from, layout}
 use Rattle.aseba_tree.specs.State as meaning
 use Rattle.aseba_tree.specs.State.{node_variables, declared}
 use Rattle.aseba_codegen.specs.Table.{layout_of, table_lines}
-use Rattle.aseba_check.specs.declared.checked.Placed.{Placed}
+use Rattle.aseba_tree.specs.declared.placed.Placed.{Placed}
 use Rattle.aseba_compile.specs.declared.program.Program.{Program}
-use Rattle.aseba_check.specs.Places.{placed_view}
 use Rattle.aseba_compile.specs.Compiled.{IsProgram, IsCompiled}
 use Rattle.aseba_tools.specs.Meant.{without_lines, IsMeant, IsMeantOf, Wrote, WroteFirst, RanText}
 use Rattle.aseba_tools.specs.SimText.{layout_with, own_places, code_line, told_text, sim_text}

@@ -5,9 +5,9 @@ use Rattle.aseba_tree.specs.Layout.{placed_from}
 use Rattle.aseba_tree.specs.Line.{Line, line_by, code_text, lines_text, end}
 use Rattle.aseba_vm.specs.State.{State}
 use Rattle.aseba_codegen.specs.Table.{Layout, Run, ticking, all_ticking, beginning, var_lines, ended_lines, table_lines}
-use Rattle.aseba_check.specs.declared.checked.Placed.{Placed}
+use Rattle.aseba_tree.specs.declared.placed.Placed.{Placed}
 use Rattle.aseba_compile.specs.declared.program.Program.{Program}
-use Rattle.aseba_check.specs.Places.{placed_view}
+use Rattle.aseba_tree.specs.View.{placed_view}
 use Rattle.aseba_tools.specs.declared.lines.Moment.{Moment}
 
 -- the places of a program's variables, which stand behind those of the node

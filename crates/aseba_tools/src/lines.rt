@@ -6,8 +6,7 @@ ghost use Rattle.aseba_tree.specs.Line.{blank_number, blank_cells, event_text, l
 ghost use Rattle.aseba_vm.specs.declared.tick.Tick.TheVariants.{Sent};
 ghost use Rattle.aseba_codegen.specs.Table.{tick_reports, var_lines};
 ghost use Rattle.aseba_tree.specs.Events.{event_of};
-ghost use Rattle.aseba_tree.specs.View.{project_view};
-ghost use Rattle.aseba_check.specs.Places.{placed_view};
+ghost use Rattle.aseba_tree.specs.View.{project_view, placed_view};
 ghost use Rattle.aseba_tools.specs.SimText.{code_line, told_text};
 
 use crate::text::Text;

@@ -6,10 +6,9 @@ ghost use Rattle.aseba_edge.specs.Sink.{Took, TookFirst};
 ghost use Rattle.aseba_tree.specs.Line.{lines_text};
 ghost use Rattle.aseba_codegen.specs.Table.{is_effect, started, var_lines};
 ghost use Rattle.aseba_tools.specs.Unwritten.{is_write_fault};
-ghost use Rattle.aseba_check.specs.Places.{placed_view};
+ghost use Rattle.aseba_tree.specs.View.{placed_view, project_view};
 ghost use Rattle.aseba_tools.specs.SimText.{after_tick, code_line, end_text, ending_text, layout_with, own_places, run_text, sim_text, tick_text, ticks_of, ticks_text, IsAt};
 ghost use Rattle.aseba_tree.specs.Inside.{InsideProject};
-ghost use Rattle.aseba_tree.specs.View.{project_view};
 
 use crate::lines::{Moment, end_line, notice_line, var_line, words_line};
 use crate::node;

@@ -12,7 +12,8 @@ use Rattle.aseba_tree.specs.Shape.{is_filled, is_filled_form, are_filled, is_som
 use Rattle.aseba_tree.specs.Numbers.{is_large, Start}
 use Rattle.aseba_tree.specs.Layout.{cells_of_variables}
 use Rattle.aseba_tree.specs.Soundness.{Refusal, far_subroutine, refusal_without_fault, refusal_by, Sound}
-use Rattle.aseba_tree.specs.SoundLaws.{SoundIsFaultless, HasCells, EachHasCells, EachInForm, EachInList, EachInOption, EachInPart, EachInHead, EachInStmt, EachInStmtForm, EachInStmts, EachInParts, EachInDecls, SoundHasCells}
+use Rattle.aseba_tree.specs.SoundLaws.{SoundIsFaultless, HasCells, EachHasCells, EachInForm, EachInList, EachInDecls, SoundHasCells}
+use Rattle.aseba_tree.specs.Each.{EachItem, EachOption, EachPart, EachHead, EachStmt, EachForm, EachStmts, EachPartOf}
 use Rattle.aseba_tree.proofs.SizeLaws.{EachKnown, nil_left, nil_right, no_fault, both_left, both_right, place_value, expr_is_good}
 
 -- Soundness without its order
@@ -94,10 +95,14 @@ mutual
 
 -- Statements
 
+items_each : (scope : Scope) (es : Exprs) → EachInList scope es → EachItem (EachHasCells scope) es
+items_each scope no_exprs h = tt
+items_each scope (exprs e es) h = (h.0, items_each scope es h.1)
+
 single : (e : Expr) → list_all is_filled (e ∷ []) ≡ true → is_filled e ≡ true
 single e h = both_left (is_filled e) true h
 
-part_each : (scope : Scope) → EachKnown scope.variables → (place : Place) (name : Name) (part : Part) → list_all is_filled (part_exprs part) ≡ true → part_faults scope place name part ≡ [] → EachInPart scope part
+part_each : (scope : Scope) → EachKnown scope.variables → (place : Place) (name : Name) (part : Part) → list_all is_filled (part_exprs part) ≡ true → part_faults scope place name part ≡ [] → EachPart (EachHasCells scope) part
 part_each scope h place name all f e = tt
 part_each scope h place name (at i) f e = expr_each scope h i (single i f) (nil_left (expr_faults scope i) _ e)
 part_each scope h place name (span c d) f e = (
@@ -106,19 +111,19 @@ part_each scope h place name (span c d) f e = (
 )
 
 assignment_each : (scope : Scope) → EachKnown scope.variables → (place : Place) (target : Target) (i : Expr) → list_all is_filled (part_exprs target.part ++ i ∷ []) ≡ true → assignment_faults scope place target i ≡ []
-    → EachInPart scope target.part × EachHasCells scope i
+    → EachPart (EachHasCells scope) target.part × EachHasCells scope i
 assignment_each scope h place target i f e =
     let first = nil_left (target_faults scope target ++ expr_faults scope i) _ e in (
       part_each scope h target.place target.name target.part (all_left (part_exprs target.part) _ f) (nil_right (unknown_variable scope target.place target.name) _ (nil_left (target_faults scope target) _ first)),
       expr_each scope h i (single i (all_right (part_exprs target.part) _ f)) (nil_right (target_faults scope target) _ first),
     )
 
-step_each : (scope : Scope) → EachKnown scope.variables → (step : Option Expr) → list_all is_filled (option_to_list step) ≡ true → step_faults scope step ≡ [] → EachInOption scope step
+step_each : (scope : Scope) → EachKnown scope.variables → (step : Option Expr) → list_all is_filled (option_to_list step) ≡ true → step_faults scope step ≡ [] → EachOption (EachHasCells scope) step
 step_each scope h None f e = tt
 step_each scope h (Some i) f e = expr_each scope h i (single i f) (nil_left (expr_faults scope i) _ (nil_left (bound_faults scope i) _ e))
 
 head_each : (scope : Scope) → EachKnown scope.variables → (place : Place) (head : ForHead) → is_filled head.first ≡ true → is_filled head.last ≡ true → list_all is_filled (option_to_list head.step) ≡ true → head_faults scope place head ≡ []
-    → EachInHead scope head
+    → EachHead (EachHasCells scope) head
 head_each scope h place head f g k e =
     let to_last = nil_left _ (step_faults scope head.step) e in
     let to_first = nil_left _ (bound_faults scope head.last) to_last in (
@@ -127,15 +132,15 @@ head_each scope h place head f g k e =
       step_each scope h head.step k (nil_right _ (step_faults scope head.step) e),
     )
 
-argument_each : (scope : Scope) → EachKnown scope.variables → (event : Option Sized) (argument : Option Expr) → list_all is_filled (option_to_list argument) ≡ true → argument_faults scope event argument ≡ [] → EachInOption scope argument
+argument_each : (scope : Scope) → EachKnown scope.variables → (event : Option Sized) (argument : Option Expr) → list_all is_filled (option_to_list argument) ≡ true → argument_faults scope event argument ≡ [] → EachOption (EachHasCells scope) argument
 argument_each scope h event None f e = tt
 argument_each scope h event (Some i) f e = expr_each scope h i (single i f) (nil_left (expr_faults scope i) _ e)
 
 mutual
-  stmt_each : (world : World) → EachKnown world.scope.variables → (s : Stmt) → list_all is_filled (stmt_exprs s) ≡ true → stmt_faults world s ≡ [] → EachInStmt world.scope s
+  stmt_each : (world : World) → EachKnown world.scope.variables → (s : Stmt) → list_all is_filled (stmt_exprs s) ≡ true → stmt_faults world s ≡ [] → EachStmt (EachHasCells world.scope) s
   stmt_each world h (stmt line place form) f e = stmt_form_each world h place form f e
 
-  stmt_form_each : (world : World) → EachKnown world.scope.variables → (place : Place) (form : StmtForm) → list_all is_filled (form_exprs form) ≡ true → stmt_form_faults world place form ≡ [] → EachInStmtForm world.scope form
+  stmt_form_each : (world : World) → EachKnown world.scope.variables → (place : Place) (form : StmtForm) → list_all is_filled (form_exprs form) ≡ true → stmt_form_faults world place form ≡ [] → EachForm (EachHasCells world.scope) form
   stmt_form_each world h place (assign target i) f e = assignment_each world.scope h place target i f e
   stmt_form_each world h place (change target op i) f e = assignment_each world.scope h place target i f e
   stmt_form_each world h place (bump target op) f e = part_each world.scope h target.place target.name target.part f (nil_right (unknown_variable world.scope target.place target.name) _ e)
@@ -155,14 +160,14 @@ mutual
       )
   stmt_form_each world h place (emit name argument) f e = argument_each world.scope h (global_event world.project name) argument f (nil_right (fault_if (not (is_some (global_event world.project name))) place unknown) _ e)
   stmt_form_each world h place (callsub name) f e = tt
-  stmt_form_each world h place (call name es) f e = list_each world.scope h es (list_is_filled es f) (nil_left (list_faults world.scope es) _ e)
+  stmt_form_each world h place (call name es) f e = items_each world.scope es (list_each world.scope h es (list_is_filled es f) (nil_left (list_faults world.scope es) _ e))
   stmt_form_each world h place return f e = tt
 
-  stmts_each : (world : World) → EachKnown world.scope.variables → (ss : Stmts) → list_all is_filled (stmts_exprs ss) ≡ true → stmts_faults world ss ≡ [] → EachInStmts world.scope ss
+  stmts_each : (world : World) → EachKnown world.scope.variables → (ss : Stmts) → list_all is_filled (stmts_exprs ss) ≡ true → stmts_faults world ss ≡ [] → EachStmts (EachHasCells world.scope) ss
   stmts_each world h no_stmts f e = tt
   stmts_each world h (stmts s ss) f e = (stmt_each world h s (all_left (stmt_exprs s) _ f) (nil_left (stmt_faults world s) _ e), stmts_each world h ss (all_right (stmt_exprs s) _ f) (nil_right (stmt_faults world s) _ e))
 
-parts_each : (world : World) → EachKnown world.scope.variables → (before hs : List Handler) → list_all is_filled (flat_map (λ h. stmts_exprs h.body) hs) ≡ true → parts_faults world before hs ≡ [] → EachInParts world.scope hs
+parts_each : (world : World) → EachKnown world.scope.variables → (before hs : List Handler) → list_all is_filled (flat_map (λ h. stmts_exprs h.body) hs) ≡ true → parts_faults world before hs ≡ [] → EachPartOf (EachHasCells world.scope) hs
 parts_each world h before [] f e = tt
 parts_each world h before (p ∷ ps) f e =
     let own = nil_left (part_name_faults world.project before p ++ stmts_faults world p.body) _ e in (
@@ -210,11 +215,11 @@ pub decl_has_cells : (scope : Scope) → EachKnown scope.variables → (d : Decl
 decl_has_cells scope h d f e = declared_has_cells scope h d.place d.size (all_left (option_to_list d.size) _ f)
     (nil_right (fault_if (is_known scope d.name) d.place duplicate) _ (nil_left _ (value_faults scope d.equals (given_size scope d.size) d.value) e))
 
-size_each : (scope : Scope) → EachKnown scope.variables → (place : Place) (size : Option Expr) → list_all is_filled (option_to_list size) ≡ true → size_faults scope place size ≡ [] → EachInOption scope size
+size_each : (scope : Scope) → EachKnown scope.variables → (place : Place) (size : Option Expr) → list_all is_filled (option_to_list size) ≡ true → size_faults scope place size ≡ [] → EachOption (EachHasCells scope) size
 size_each scope h place None f e = tt
 size_each scope h place (Some i) f e = expr_each scope h i (single i f) (nil_left (expr_faults scope i) _ (nil_left (bound_faults scope i) _ e))
 
-value_each : (scope : Scope) → EachKnown scope.variables → (place : Place) (size : Option ℕ) (value : Option Expr) → list_all is_filled (option_to_list value) ≡ true → value_faults scope place size value ≡ [] → EachInOption scope value
+value_each : (scope : Scope) → EachKnown scope.variables → (place : Place) (size : Option ℕ) (value : Option Expr) → list_all is_filled (option_to_list value) ≡ true → value_faults scope place size value ≡ [] → EachOption (EachHasCells scope) value
 value_each scope h place size None f e = tt
 value_each scope h place size (Some i) f e = expr_each scope h i (single i f) (nil_left (expr_faults scope i) _ e)
 

@@ -45,11 +45,18 @@ abbrev mutual
 abbrev pub is_handler : CorePart → Bool
 is_handler part = is_some part.event
 
+-- the handlers of a core, and its subroutines
+abbrev pub core_handlers : Core → List CorePart
+core_handlers core = filter is_handler core.parts
+
+abbrev pub core_subs : Core → List CorePart
+core_subs core = filter (λ part. not (is_handler part)) core.parts
+
 abbrev pub core_part_words : Project → CorePart → ℕ
 core_part_words project part = core_list_words project part.body + 1
 
 abbrev pub core_table_words : Core → ℕ
-core_table_words core = 3 + 2 * length (filter is_handler core.parts)
+core_table_words core = 3 + 2 * length (core_handlers core)
 
 -- the words of a core's statements with the event table and the last word of each part
 abbrev pub core_words : Project → Core → ℕ
@@ -92,7 +99,7 @@ core_sub_depth core (suc n) which = core_list_depth (core_sub_depth core n) (cor
 abbrev pub core_depth : Core → ℕ
 core_depth core =
     let subs = core_sub_depth core (length core.parts) in
-    max (core_list_depth subs core.init) (greatest (map (λ part. core_list_depth subs part.body) (filter is_handler core.parts)))
+    max (core_list_depth subs core.init) (greatest (map (λ part. core_list_depth subs part.body) (core_handlers core)))
 
 -- Subroutines of a large project
 
@@ -102,7 +109,7 @@ core_starts_from project address (part ∷ parts) = address ∷ core_starts_from
 
 -- the addresses at which the plain code of the subroutines begins in a large project
 abbrev pub core_starts : Project → Core → List ℕ
-core_starts project core = core_starts_from project (core_table_words core) (filter (λ part. not (is_handler part)) core.parts)
+core_starts project core = core_starts_from project (core_table_words core) (core_subs core)
 
 -- Pace
 
@@ -126,13 +133,21 @@ own_nodes (enter which) = 0
 own_nodes (use_native id values) = length values
 own_nodes go_back = 0
 
--- the weight of a statement that isn't a store into a temporary where the stores directly before it weigh so much, or what has been kept with one more such store
-abbrev pub weight_or_kept : (kept : ℕ) → Option ℕ → CoreForm → (inner : ℕ) → (ℕ → ℕ) → ℕ
-weight_or_kept kept (Some more) form inner rest = rest (kept + more)
-weight_or_kept kept None form inner rest = max (kept + own_nodes form + 3) (max inner (rest 0))
+-- A statement weighs its leaves and operators, the values of a call, what the stores into temporaries directly before it have together, and three; such
+-- a store itself weighs no more than three.
+abbrev pub weight_behind : (kept : ℕ) → Option ℕ → CoreForm → ℕ
+weight_behind kept (Some more) form = 3
+weight_behind kept None form = kept + own_nodes form + 3
 
--- The greatest weight of statements: leaves and operators, those of the stores into temporaries directly before it with one for each of these, the values of a call,
--- and three. Without a statement that has an effect it is 3.
+-- what the stores directly before the next statement have together
+abbrev pub kept_with : (kept : ℕ) → Option ℕ → ℕ
+kept_with kept (Some more) = kept + more
+kept_with kept None = 0
+
+abbrev pub kept_behind : (cells kept : ℕ) → CoreStmt → ℕ
+kept_behind cells kept (core_stmt line form) = kept_with kept (kept_nodes cells form)
+
+-- The greatest weight of a statement with the stores directly before it, at least 3, where the stores directly before the first one have so much.
 abbrev mutual
   pub inner_weight : (cells : ℕ) → CoreForm → ℕ
   inner_weight cells (branch c body other) = max (core_list_weight cells body 0) (core_list_weight cells other 0)
@@ -140,12 +155,12 @@ abbrev mutual
   inner_weight cells (loop c body) = core_list_weight cells body 0
   inner_weight cells _ = 3
 
-  pub core_stmt_weight : (cells : ℕ) → CoreStmt → (kept : ℕ) → (ℕ → ℕ) → ℕ
-  core_stmt_weight cells (core_stmt line form) kept rest = weight_or_kept kept (kept_nodes cells form) form (inner_weight cells form) rest
+  pub core_stmt_weight : (cells kept : ℕ) → CoreStmt → ℕ
+  core_stmt_weight cells kept (core_stmt line form) = max (weight_behind kept (kept_nodes cells form) form) (inner_weight cells form)
 
   pub core_list_weight : (cells : ℕ) → CoreStmts → (kept : ℕ) → ℕ
   core_list_weight cells no_core kept = 3
-  core_list_weight cells (core_stmts s ss) kept = core_stmt_weight cells s kept (core_list_weight cells ss)
+  core_list_weight cells (core_stmts s ss) kept = max (core_stmt_weight cells kept s) (core_list_weight cells ss (kept_behind cells kept s))
 
 -- Of any so many successive ticks in which one handler of the core's code runs, at least one has an effect.
 abbrev pub core_weight : Core → ℕ

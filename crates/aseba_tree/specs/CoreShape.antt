@@ -8,6 +8,8 @@ use Rattle.aseba_tree.specs.Core.{CoreStmt, core_stmt, CoreForm, store, branch, 
 use Rattle.aseba_tree.specs.Events.{is_event_number}
 use Rattle.aseba_tree.specs.CoreCells.{core_has_cells}
 use Rattle.aseba_tree.specs.CoreLines.{core_is_lined}
+use Rattle.aseba_tree.specs.Templates.{templates, cells_of_param}
+use Rattle.aseba_tree.specs.Limits.{farthest}
 use Rattle.aseba_tree.specs.Numbers.{is_large}
 use Rattle.aseba_tree.specs.CoreNumbers.{core_words, core_depth, core_starts}
 
@@ -46,16 +48,7 @@ is_good_target core stored (into_index base size i) = is_indexed core base size 
 abbrev pub sizes_of_native : Project → ℕ → Option (List ℤ)
 sizes_of_native project id = option_map (λ native. map (λ p. p.size) native.params) (slice_get project.node.natives id)
 
--- the templates among parameters in the order in which they first stand there, but those that stood before
-abbrev pub templates : List ℤ → List ℤ → List ℤ
-templates before [] = []
-templates before (p ∷ ps) = if int_lt p (pos 0) && not (list_any (int_eq p) before) then p ∷ templates (p ∷ before) ps else templates before ps
-
--- the cells of a parameter where the templates have these lengths
-abbrev pub cells_of_param : List ℤ → List ℕ → ℤ → ℕ
-cells_of_param all lengths (pos n) = n
-cells_of_param all lengths (negsuc n) = slice_index lengths (position_or_len (int_eq (negsuc n)) all)
-
+-- each parameter reads its cells from its address on
 abbrev pub are_readable_params : Core → List ℕ → List ℤ → List ℕ → List ℤ → List ℕ → Bool
 are_readable_params core stored all lengths (p ∷ ps) (address ∷ addresses) =
     is_readable_range core stored address (cells_of_param all lengths p) && are_readable_params core stored all lengths ps addresses
@@ -151,4 +144,4 @@ pub record IsCore (project : Project) (core : Core) : Type 0 where
   pub lined : IsTrue (core_is_lined core)
   pub handles_events : IsTrue (list_all (is_event_number project) (handled core) && are_distinct (handled core))
   pub ends : IsTrue (has_no_cycle core)
-  pub is_near : IsTrue (is_large project) → IsTrue (list_all (λ start. nat_le start 4095) (core_starts project core))
+  pub is_near : IsTrue (is_large project) → IsTrue (list_all (λ start. nat_le start farthest) (core_starts project core))

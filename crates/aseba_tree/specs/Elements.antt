@@ -3,7 +3,7 @@ use Rattle.std.specs.Prelude.{ℕ, ◌+◌, pos, List, [], ◌∷◌, ◌++◌, 
 use Rattle.std.specs.List.{range_with_len}
 use Rattle.aseba_words.specs.declared.operators.Binary.{Binary}
 use Rattle.aseba_tree.specs.Code.{Name, Expr, expr, Form, number, whole, index, range, items, one, two, Exprs, no_exprs, exprs, Const, Part, all, at, span, Target}
-use Rattle.aseba_tree.specs.Value.{as_place, from_to, constant}
+use Rattle.aseba_tree.specs.Value.{as_place, from_to, constant, constant_named}
 use Rattle.aseba_tree.specs.State.{Program}
 use Rattle.aseba_tree.specs.Step.{target_expr}
 use Rattle.aseba_tree.specs.CoreExpr.{CoreExpr, fixed, cell, indirect, prefix, infix_of}
@@ -41,7 +41,7 @@ abbrev mutual
 
   pub elements_of_form : Program → Form → List CoreExpr
   elements_of_form program (number v) = fixed v ∷ []
-  elements_of_form program (whole name) = named_elements (variable_place program name) (find (λ c. bytes_eq c.name name) program.project.consts)
+  elements_of_form program (whole name) = named_elements (variable_place program name) (constant_named program.project.consts name)
   elements_of_form program (index name e) = indexed_element (variable_place program name) (elements_of program e) ∷ []
   elements_of_form program (range name c d) =
       range_elements (variable_place program name) (as_place (constant program.project.consts c)) (as_place (constant program.project.consts d))

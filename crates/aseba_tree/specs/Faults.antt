@@ -9,7 +9,7 @@ use Rattle.aseba_words.specs.declared.operators.Binary.{Binary}
 use Rattle.aseba_words.specs.declared.operators.Binary.TheVariants.{Div, Rem}
 use Rattle.aseba_tree.specs.Code.{Name, Place, Expr, expr, Form, number, whole, index, range, items, one, two, Exprs, no_exprs, exprs, Part, all, at, span, Target, ForHead, Stmt, stmt, StmtForm, assign, change, bump, if_then, when_do, while_do, for_do, emit, callsub, call, return, Stmts, no_stmts, stmts, Decl, Handler, Sized, Param, Native, Project}
 use Rattle.aseba_tree.specs.Spells.{first_of}
-use Rattle.aseba_tree.specs.State.{Program}
+use Rattle.aseba_tree.specs.State.{Program, subroutines}
 use Rattle.aseba_tree.specs.Sizes.{Scope, variable_of, constant_of, is_constant, constant_value, is_of_one_cell, size_of, variable_size, target_size}
 
 -- the rules, in the order in which faults at one place are told
@@ -243,7 +243,7 @@ abbrev mutual
 
 -- Declarations
 
--- the size that a declaration gives: a number from 1 to 4096, and 1 where it has none
+-- the size that a declaration gives: its number, if that is from 1 to 4096, and 1 where no size is written
 abbrev pub size_in_range : Option ℤ → Option ℕ
 size_in_range (Some (pos n)) = if nat_lt 0 n && nat_lt n 4097 then Some n else None
 size_in_range _ = None
@@ -347,7 +347,7 @@ abbrev pub world_of : Program → World
 world_of program = record {
   scope = all_declaring (first_scope program.project) program.source.vars;
   project = program.project;
-  subs = map (λ h. h.name) (filter (λ h. h.is_sub) program.source.parts);
+  subs = map (λ h. h.name) (subroutines program);
 }
 
 -- every place at which a rule is broken, with the rule

@@ -7,6 +7,7 @@ pub mod CoreLines
 pub mod CoreNumbers
 pub mod CoreShape
 pub mod CoreStep
+pub mod Each
 pub mod Elements
 pub mod Events
 pub mod Faults
@@ -14,6 +15,7 @@ pub mod GoodScript
 pub mod Inside
 pub mod Laws
 pub mod Layout
+pub mod Limits
 pub mod Line
 pub mod Lines
 pub mod Moves
@@ -27,6 +29,7 @@ pub mod Soundness
 pub mod Spells
 pub mod State
 pub mod Step
+pub mod Templates
 pub mod Tokens
 pub mod Value
 pub mod View

@@ -1,14 +1,15 @@
--- How many words of plain code a source takes, how deep its stack gets, how many temporaries it needs, and how many ticks pass at most without an effect.
+-- How many words of plain code a source takes, how deep its stack gets, how many temporaries it needs, and fewer than how many ticks pass without an effect.
 use Rattle.std.specs.Prelude.{ℕ, zero, suc, ◌+◌, ◌*◌, max, nat_lt, Bool, true, false, not, ◌||◌, if◌then◌else◌, ℤ, pos, negsuc, int_lt, List, [], ◌∷◌, ◌++◌, length, map, sum_by, bytes_eq, find, filter, Option, Some, None, is_some, option_map, unwrap_or}
 use Rattle.std.specs.List.{fold, list_any}
 use Rattle.std.specs.Ordering.{int_eq}
 use Rattle.aseba_words.specs.declared.operators.Binary.TheVariants.{Add, AtLeast, AtMost}
 use Rattle.aseba_tree.specs.Code.{Name, Expr, expr, Form, whole, range, Exprs, no_exprs, exprs, ForHead, Stmt, stmt, StmtForm, assign, change, bump, if_then, when_do, while_do, for_do, emit, callsub, call, return, Stmts, no_stmts, stmts, Handler, Project}
 use Rattle.aseba_tree.specs.Value.{constant}
-use Rattle.aseba_tree.specs.State.{Program, init_code}
+use Rattle.aseba_tree.specs.State.{Program, init_code, handlers, subroutines}
 use Rattle.aseba_tree.specs.Step.{step_of}
 use Rattle.aseba_tree.specs.CoreExpr.{CoreExpr, fixed, cell, indirect, prefix, infix_of}
 use Rattle.aseba_tree.specs.Sizes.{is_of_one_cell}
+use Rattle.aseba_tree.specs.Templates.{template_lengths}
 use Rattle.aseba_tree.specs.Elements.{variable_place, elements_of, changed_elements, bumped_elements, element_of, target_index}
 
 abbrev pub greatest : List ℕ → ℕ
@@ -118,13 +119,6 @@ abbrev pub lengths : Program → Exprs → List ℕ
 lengths program no_exprs = []
 lengths program (exprs e es) = length (elements_of program e) ∷ lengths program es
 
--- the lengths of the templates in the order in which they first stand among the parameters, where these templates stood before
-abbrev pub template_lengths : List ℤ → List ℤ → List ℕ → List ℕ
-template_lengths before (p ∷ ps) (n ∷ ns) =
-    if int_lt p (pos 0) then (if list_any (int_eq p) before then template_lengths before ps ns else n ∷ template_lengths (p ∷ before) ps ns)
-    else template_lengths before ps ns
-template_lengths before _ _ = []
-
 abbrev pub param_sizes : Project → Name → List ℤ
 param_sizes project name = unwrap_or (option_map (λ native. map (λ p. p.size) native.params) (find (λ native. bytes_eq native.name name) project.node.natives)) []
 
@@ -184,7 +178,7 @@ part_words program h = stmts_words program h.body + 1
 
 -- the words of the event table
 abbrev pub table_words : Program → ℕ
-table_words program = 3 + 2 * length (filter (λ h. not h.is_sub) program.source.parts)
+table_words program = 3 + 2 * length (handlers program)
 
 -- The words of a source: the event table, the init code and the parts, each with its last word.
 abbrev pub source_words : Program → ℕ
@@ -218,7 +212,7 @@ abbrev mutual
   stmts_depth program subs (stmts s ss) = max (stmt_depth program subs s) (stmts_depth program subs ss)
 
 abbrev pub sub_body : Program → Name → Stmts
-sub_body program name = body (find (λ h. bytes_eq h.name name) (filter (λ h. h.is_sub) program.source.parts))
+sub_body program name = body (find (λ h. bytes_eq h.name name) (subroutines program))
   where
     body : Option Handler → Stmts
     body None = no_stmts
@@ -232,9 +226,6 @@ sub_depth program (suc n) name = stmts_depth program (sub_depth program n) (sub_
 -- of a subroutine: calls are no deeper than there are parts
 abbrev pub depth_of_sub : Program → Name → ℕ
 depth_of_sub program name = sub_depth program (length program.source.parts) name
-
-abbrev pub handlers : Program → List Handler
-handlers program = filter (λ h. not h.is_sub) program.source.parts
 
 -- The stack cells of a source: the most that its init code or a handler takes.
 abbrev pub source_depth : Program → ℕ
@@ -318,4 +309,4 @@ starts_from program address (h ∷ hs) = record { sub = h; address = address } �
 
 -- In a large project the subroutines stand behind the event table, one behind the other.
 abbrev pub starts : Program → List Start
-starts program = starts_from program (table_words program) (filter (λ h. h.is_sub) program.source.parts)
+starts program = starts_from program (table_words program) (subroutines program)

@@ -1,9 +1,10 @@
--- What holds of each source that tokens spell within the limit of nesting, and what the check of a source asks for.
+-- What holds of each source that fewer than 4294967295 tokens spell, none of them nested too deep, and what the check of a source asks for.
 use Rattle.std.specs.Prelude.{ℕ, suc, ◌+◌, ◌<◌, nat_le, max, Bool, true, false, not, ◌&&◌, IsTrue, List, [], ◌∷◌, ◌++◌, option_to_list, length, sum_by, flat_map}
 use Rattle.std.specs.List.{list_all}
 use Rattle.aseba_words.specs.declared.operators.Binary.{Binary}
 use Rattle.aseba_words.specs.declared.operators.Binary.TheVariants.{Add, Sub}
 use Rattle.aseba_tree.specs.Code.{Expr, expr, Form, number, whole, index, range, items, one, two, Exprs, no_exprs, exprs, Part, all, at, span, Stmt, stmt, StmtForm, assign, change, bump, if_then, when_do, while_do, for_do, emit, callsub, call, return, Stmts, no_stmts, stmts, Decl, Source}
+use Rattle.aseba_tree.specs.Limits.{deepest}
 use Rattle.aseba_tree.specs.Sizes.{is_of_one_cell}
 
 -- the number of expressions in an expression, itself included
@@ -150,5 +151,5 @@ abbrev mutual
 pub record IsTree (source : Source) : Type 0 where
   pub is_small : source_count source < 4294967295
   pub is_filled : IsTrue (list_all is_filled (source_exprs source))
-  pub is_shallow : IsTrue (list_all (λ e. nat_le (list_depth e) 64) (source_exprs source))
+  pub is_shallow : IsTrue (list_all (λ e. nat_le (list_depth e) deepest) (source_exprs source))
   pub has_operators : IsTrue (have_operators source.init && list_all (λ h. have_operators h.body) source.parts)

@@ -5,6 +5,7 @@ use Rattle.aseba_words.specs.declared.operators.Unary.TheVariants.{Minus, Abs, B
 use Rattle.aseba_words.specs.declared.operators.Binary.{Binary}
 use Rattle.aseba_words.specs.declared.operators.Binary.TheVariants.{Equal, Differ, Above, AtLeast, Below, AtMost, Or, And}
 use Rattle.aseba_words.specs.Cell.{unary_value, binary_value}
+use Rattle.aseba_tree.specs.Value.{constant_number}
 use Rattle.aseba_tree.specs.Code.{Name, Expr, expr, Form, number, whole, index, range, items, one, two, Exprs, no_exprs, exprs, Part, all, at, span, Target, Const}
 
 -- a variable with its size, where its declaration gives one
@@ -21,7 +22,7 @@ abbrev pub variable_of : Scope → Name → Option Known
 variable_of scope name = find (λ v. bytes_eq v.name name) scope.variables
 
 abbrev pub constant_of : Scope → Name → Option ℤ
-constant_of scope name = option_map (λ c. c.value) (find (λ c. bytes_eq c.name name) scope.consts)
+constant_of scope name = constant_number scope.consts name
 
 -- the number of the constant that a name alone means, where no variable has that name
 abbrev pub named_constant : Scope → Name → Option ℤ
@@ -115,8 +116,8 @@ unary_size Not size = Some 1
 abbrev pub binary_size : Binary → Option ℕ → Option ℕ → Option ℕ
 binary_size op l r = if is_of_one_cell op then Some 1 else common_size l r
 
--- The number of cells of an expression. It has none where a name is unknown, the ends of a range are not constant or run backwards, or the sizes
--- of two operands differ that are taken cell by cell.
+-- The number of cells of an expression: one for an indexed cell, for `not` and for an operator whose result has one cell, over any parts. Else it has
+-- none where a name alone is unknown, the ends of a range are not constant or run backwards, the sizes of two operands differ, or a part has none.
 abbrev mutual
   pub size_of : Scope → Expr → Option ℕ
   size_of scope (expr first place form) = form_size scope form

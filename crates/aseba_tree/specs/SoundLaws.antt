@@ -1,7 +1,8 @@
 -- What is so of each sound source.
 use Rattle.std.specs.Prelude.{◌≡◌, ◌↔◌, ℕ, ◌≤◌, nat_lt, IsTrue, ℤ, List, [], ◌∷◌, map, length, Option, Some, None, IsSomeAnd, Ok}
 use Rattle.std.specs.List.{list_all}
-use Rattle.aseba_tree.specs.Code.{Expr, expr, Form, number, whole, index, range, items, one, two, Exprs, no_exprs, exprs, Part, all, at, span, ForHead, Stmt, stmt, StmtForm, assign, change, bump, if_then, when_do, while_do, for_do, emit, callsub, call, return, Stmts, no_stmts, stmts, Decl, Handler}
+use Rattle.aseba_tree.specs.Code.{Expr, expr, Form, number, whole, index, range, items, one, two, Exprs, no_exprs, exprs, Decl}
+use Rattle.aseba_tree.specs.Each.{EachOption, EachStmts, EachPartOf}
 use Rattle.aseba_tree.specs.State.{Program}
 use Rattle.aseba_tree.specs.Sizes.{Scope, size_of, form_size, constant_value}
 use Rattle.aseba_tree.specs.Value.{value}
@@ -39,52 +40,16 @@ abbrev mutual
   EachInList scope no_exprs = Unit {0}
   EachInList scope (exprs e es) = EachHasCells scope e × EachInList scope es
 
-abbrev pub EachInOption : Scope → Option Expr → Type 0
-EachInOption scope None = Unit {0}
-EachInOption scope (Some e) = EachHasCells scope e
-
-abbrev pub EachInPart : Scope → Part → Type 0
-EachInPart scope all = Unit {0}
-EachInPart scope (at e) = EachHasCells scope e
-EachInPart scope (span c d) = EachHasCells scope c × EachHasCells scope d
-
-abbrev pub EachInHead : Scope → ForHead → Type 0
-EachInHead scope head = EachHasCells scope head.first × EachHasCells scope head.last × EachInOption scope head.step
-
--- the same of all expressions in statements
-abbrev mutual
-  pub EachInStmt : Scope → Stmt → Type 0
-  EachInStmt scope (stmt line place form) = EachInStmtForm scope form
-
-  pub EachInStmtForm : Scope → StmtForm → Type 0
-  EachInStmtForm scope (assign target e) = EachInPart scope target.part × EachHasCells scope e
-  EachInStmtForm scope (change target op e) = EachInPart scope target.part × EachHasCells scope e
-  EachInStmtForm scope (bump target op) = EachInPart scope target.part
-  EachInStmtForm scope (if_then c body other) = EachHasCells scope c × EachInStmts scope body × EachInStmts scope other
-  EachInStmtForm scope (when_do c body) = EachHasCells scope c × EachInStmts scope body
-  EachInStmtForm scope (while_do c body) = EachHasCells scope c × EachInStmts scope body
-  EachInStmtForm scope (for_do head body) = EachInHead scope head × EachInStmts scope body
-  EachInStmtForm scope (emit name argument) = EachInOption scope argument
-  EachInStmtForm scope (callsub name) = Unit {0}
-  EachInStmtForm scope (call name es) = EachInList scope es
-  EachInStmtForm scope return = Unit {0}
-
-  pub EachInStmts : Scope → Stmts → Type 0
-  EachInStmts scope no_stmts = Unit {0}
-  EachInStmts scope (stmts s ss) = EachInStmt scope s × EachInStmts scope ss
-
-abbrev pub EachInParts : Scope → List Handler → Type 0
-EachInParts scope [] = Unit {0}
-EachInParts scope (h ∷ hs) = EachInStmts scope h.body × EachInParts scope hs
-
 -- in declarations, each in the scope of those before it
 abbrev pub EachInDecls : Scope → List Decl → Type 0
 EachInDecls scope [] = Unit {0}
-EachInDecls scope (d ∷ ds) = EachInOption scope d.size × EachInOption scope d.value × EachInDecls (declaring scope d) ds
+EachInDecls scope (d ∷ ds) = EachOption (EachHasCells scope) d.size × EachOption (EachHasCells scope) d.value × EachInDecls (declaring scope d) ds
 
+-- each expression of a source has a size of at least 1
 abbrev pub EachInSource : Program → Type 0
 EachInSource program =
-    EachInDecls (first_scope program.project) program.source.vars × EachInStmts (world_of program).scope program.source.init × EachInParts (world_of program).scope program.source.parts
+    let each = EachHasCells (world_of program).scope in
+    EachInDecls (first_scope program.project) program.source.vars × EachStmts each program.source.init × EachPartOf each program.source.parts
 
 -- Where each variable of the node has a cell, each expression of a sound source has a size of at least 1.
 abbrev pub SoundHasCells : Program → Type 0

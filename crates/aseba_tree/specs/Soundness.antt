@@ -3,6 +3,7 @@ use Rattle.std.specs.Prelude.{◌≡◌, ℕ, nat_lt, if◌then◌else◌, find,
 use Rattle.aseba_tree.specs.Code.{Place}
 use Rattle.aseba_tree.specs.State.{Program}
 use Rattle.aseba_tree.specs.Faults.{Fault, faults, first_fault}
+use Rattle.aseba_tree.specs.Limits.{farthest}
 use Rattle.aseba_tree.specs.Layout.{cells_of_variables}
 use Rattle.aseba_tree.specs.Numbers.{is_large, Start, starts}
 
@@ -11,10 +12,6 @@ pub data Refusal : Type 0 where
   broken : Fault → Refusal
   variables_full : (need have : ℕ) → Refusal
   subroutine_far : Place → (start : ℕ) → Refusal
-
--- a call names no address above this one
-abbrev pub farthest : ℕ
-farthest = 4095
 
 -- the first subroutine that begins too far behind
 abbrev pub far_subroutine : Program → Option Start

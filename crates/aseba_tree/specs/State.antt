@@ -1,5 +1,5 @@
 -- The state of a source that runs.
-use Rattle.std.specs.Prelude.{ℕ, suc, ◌+◌, ℤ, pos, Bool, true, false, ◌&&◌, if◌then◌else◌, List, [], ◌∷◌, ◌++◌, map, replicate, filter_map, sum_by, bytes_eq, Option, Some, None, option_map, codes}
+use Rattle.std.specs.Prelude.{ℕ, suc, ◌+◌, ℤ, pos, Bool, true, false, not, ◌&&◌, if◌then◌else◌, List, [], ◌∷◌, ◌++◌, map, replicate, filter, filter_map, sum_by, bytes_eq, Option, Some, None, option_map, codes}
 use Rattle.std.specs.Bool.{beq}
 use Rattle.aseba_words.specs.Cell.{wrapped}
 use Rattle.aseba_tree.specs.Code.{Name, Expr, Stmt, stmt, StmtForm, assign, if_then, when_do, while_do, for_do, Stmts, no_stmts, stmts, ForHead, all, Decl, Handler, Source, Sized, Const, Project}
@@ -70,6 +70,13 @@ in_front (d ∷ ds) ss = stmts d (in_front ds ss)
 -- the statements before the first part: the declarations' assignments, then the others
 abbrev pub init_code : Source → Stmts
 init_code source = in_front (filter_map assignment source.vars) source.init
+
+-- the handlers of a source, and its subroutines
+abbrev pub handlers : Program → List Handler
+handlers program = filter (λ h. not h.is_sub) program.source.parts
+
+abbrev pub subroutines : Program → List Handler
+subroutines program = filter (λ h. h.is_sub) program.source.parts
 
 -- the number of `when`s of a source
 abbrev pub all_whens : Source → ℕ

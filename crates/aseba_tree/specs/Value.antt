@@ -53,10 +53,17 @@ first_stop [] = Ok []
 first_stop (Err s ∷ es) = Err s
 first_stop (Ok v ∷ es) = and_then (first_stop es) (λ vs. Ok (v ∷ vs))
 
+-- the first constant of a name, and its number
+abbrev pub constant_named : List Const → Name → Option Const
+constant_named consts name = find (λ c. bytes_eq c.name name) consts
+
+abbrev pub constant_number : List Const → Name → Option ℤ
+constant_number consts name = option_map (λ c. c.value) (constant_named consts name)
+
 -- the cells of the variable of a name; else the constant of that name, in one cell
 abbrev pub named_cells : List Const → Name → Option (List ℤ) → List ℤ
 named_cells consts name (Some cells) = cells
-named_cells consts name None = option_to_list (option_map (λ c. c.value) (find (λ c. bytes_eq c.name name) consts))
+named_cells consts name None = option_to_list (constant_number consts name)
 
 -- an index as a place among so many cells, or the stop that it makes
 abbrev pub place_among : ℕ → ℤ → Result ℕ Stop

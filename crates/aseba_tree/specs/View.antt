@@ -1,8 +1,10 @@
 -- The code's trees as the data of the definitions.
 use Rattle.std.specs.Prelude.{List, [], ◌∷◌, map, option_map}
 use Rattle.aseba_tree.specs.Code as tree
+use Rattle.aseba_tree.specs.Layout as layout
 use Rattle.aseba_tree.specs.CoreExpr as core_expr
 use Rattle.aseba_tree.specs.Core as core_tree
+use Rattle.aseba_tree.specs.declared.placed.Placed.{Placed}
 use Rattle.aseba_tree.specs.declared.pos.Pos.{Pos}
 use Rattle.aseba_tree.specs.declared.expr.Expr.{Expr}
 use Rattle.aseba_tree.specs.declared.expr.Form.{Form}
@@ -154,6 +156,10 @@ const_view c = record { name = c.name; value = c.value }
 
 abbrev pub project_view : Project → tree.Project
 project_view p = record { node = description_view p.node; id = p.id; events = map sized_view p.events; consts = map const_view p.consts }
+
+-- Variables with their places
+abbrev pub placed_view : Placed → layout.Placed
+placed_view p = record { name = p.name; start = p.start; size = p.size }
 
 -- Cores
 abbrev pub core_expr_step : CoreExpr-F core_expr.CoreExpr → core_expr.CoreExpr

@@ -10,6 +10,7 @@ mod description;
 mod expr;
 mod inside;
 mod laws;
+mod placed;
 mod pos;
 mod project;
 mod sound_laws;
@@ -23,6 +24,7 @@ pub use decl::Decl;
 pub use description::{Description, Local, Native, Param, Sized};
 pub use expr::{Expr, Form};
 pub use laws::{false_beats_leave_all, idle_stays_idle, kills_leave_nothing, stops_store_nothing};
+pub use placed::Placed;
 pub use pos::Pos;
 pub use project::{Const, Project};
 pub use sound_laws::{

@@ -6,13 +6,12 @@ ghost use Rattle.aseba_check.specs.Declarations.{declared};
 ghost use Rattle.aseba_check.specs.Statements.{known_of};
 ghost use Rattle.aseba_check.specs.CountedPlaces as told;
 
-use crate::checked::Placed;
 use crate::declarations::{declare, project_names};
 use crate::facts::Meaning;
 use crate::rules::world_of;
 use crate::table::Table;
 use crate::world::World;
-use aseba_tree::{Handler, Project};
+use aseba_tree::{Handler, Placed, Project};
 use aseba_words::Mem;
 use std::alloc::Global;
 

@@ -1,8 +1,7 @@
 //! Sources whose plain code was counted by hand. They are made by hand, all nodes at one place.
-use crate::checked::Placed;
 use crate::counting::placed_taken;
 use aseba_tree::{
-    Decl, Description, Expr, Form, Handler, Part, Pos, Project, Source, Stmt, StmtForm, Target,
+    Decl, Description, Expr, Form, Handler, Part, Placed, Pos, Project, Source, Stmt, StmtForm, Target,
 };
 use aseba_words::{Binary, List, Mem, Name};
 use sqlite_items::Boxed;

@@ -3,7 +3,7 @@
 pub struct Numbers {
     /// Words of code, the event table included.
     pub size: u64,
-    /// Stack cells, at the deepest point of its handlers.
+    /// Stack cells, at the deepest point of its init code and its handlers.
     pub depth: u64,
     /// Temporaries, in cells.
     pub room: u64,

@@ -1,7 +1,6 @@
 ghost use Rattle.std.specs.Prelude.{◌≡◌, true, map, OnOk};
-ghost use Rattle.aseba_tree.specs.View.{const_view, core_expr_view};
+ghost use Rattle.aseba_tree.specs.View.{const_view, core_expr_view, placed_view};
 ghost use Rattle.aseba_tree.specs.Value.{is_cell};
-ghost use Rattle.aseba_check.specs.Places.{placed_view};
 ghost use Rattle.aseba_compile.specs.StraightRead.{looked, nothing, with_meaning, with_constant, with_constants, with_place, with_places, has_cell, address_in, element_named};
 ghost use Rattle.aseba_compile.specs.StraightRun.{are_cells};
 

@@ -1,6 +1,7 @@
 use Rattle.std.proofs.Common.{◌≡◌, ◌++◌, drop}
 use Rattle.aseba_tree.specs.View.{exprs_view}
-use Rattle.aseba_check.specs.Fits.{Fits, EachItem}
+use Rattle.aseba_tree.specs.Each.{EachItem}
+use Rattle.aseba_check.specs.Fits.{Fits}
 use Rattle.aseba_check.specs.Looked.{looked}
 use Rattle.aseba_check.specs.Statements.{given}
 use Rattle.aseba_check.proofs.calls.given_facts.Given as goal

@@ -1,11 +1,11 @@
 use Rattle.std.proofs.Common.{◌∙◌, ap, sym, subst, ℕ, Option, map, arith}
 use Rattle.std.specs.Prelude.{option_map}
 use Rattle.aseba_tree.specs.declared.source.Source.{Source}
-use Rattle.aseba_tree.specs.View.{source_view}
+use Rattle.aseba_tree.specs.View.{source_view, placed_view}
 use Rattle.aseba_tree.specs.Layout as layout
 use Rattle.aseba_check.specs.declared.far.Far.{Far}
 use Rattle.aseba_check.specs.Accepted.{IsChecked}
-use Rattle.aseba_check.specs.Places.{placed_view, AreInOrder}
+use Rattle.aseba_check.specs.Places.{AreInOrder}
 use Rattle.aseba_check.specs.Refused.{program_in, far_view}
 use Rattle.aseba_check.proofs.Refusals.{full, need-is, layout-is, in-order}
 use Rattle.aseba_check.proofs.checking.laid_out.Goals as goal

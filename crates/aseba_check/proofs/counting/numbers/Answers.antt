@@ -1,7 +1,7 @@
 use Rattle.std.proofs.Common.{◌∙◌, ap, subst, List}
 use Rattle.aseba_tree.specs.View.{source_view}
 use Rattle.aseba_tree.proofs.SoundProofs.{sound_is_faultless}
-use Rattle.aseba_check.specs.declared.checked.Placed.{Placed}
+use Rattle.aseba_tree.specs.declared.placed.Placed.{Placed}
 use Rattle.aseba_check.specs.declared.counting.taken.Taken.{Taken}
 use Rattle.aseba_check.specs.Refused.{program_in}
 use Rattle.aseba_check.specs.CountedPlaces.{NumbersFit}

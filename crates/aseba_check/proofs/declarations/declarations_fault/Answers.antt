@@ -2,7 +2,8 @@ use Rattle.std.proofs.Common.{◌≡◌, ◌∙◌, ◌+◌, ap, sym, ℕ, List,
 use Rattle.aseba_tree.specs.declared.decl.Decl.{Decl}
 use Rattle.aseba_tree.specs.View.{expr_view, decl_view}
 use Rattle.aseba_check.specs.declared.fault.Fault.{Fault}
-use Rattle.aseba_check.specs.Fits.{Fits, EachDecl}
+use Rattle.aseba_tree.specs.Each.{EachDecl}
+use Rattle.aseba_check.specs.Fits.{Fits}
 use Rattle.aseba_check.specs.Looked.{looked}
 use Rattle.aseba_check.specs.Declarations.{Names, given_size, size_facts, declaring, with_decl, all_declaring, decls_told, decl_sizes}
 use Rattle.aseba_check.proofs.declarations.declarations_fault.Goals as goal

@@ -1,6 +1,7 @@
 use Rattle.std.proofs.Common.{◌≡◌, ◌++◌, None, drop, map}
 use Rattle.aseba_tree.specs.View.{decl_view}
-use Rattle.aseba_check.specs.Fits.{Fits, EachDecl}
+use Rattle.aseba_tree.specs.Each.{EachDecl}
+use Rattle.aseba_check.specs.Fits.{Fits}
 use Rattle.aseba_check.specs.Looked.{looked}
 use Rattle.aseba_check.specs.Declarations.{all_declaring, decls_told, decl_sizes}
 use Rattle.aseba_check.proofs.declarations.declarations_fault.Given as goal

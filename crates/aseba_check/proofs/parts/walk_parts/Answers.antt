@@ -2,7 +2,8 @@ use Rattle.std.proofs.Common.{◌≡◌, ◌∙◌, ◌+◌, ap, sym, subst, suc
 use Rattle.aseba_tree.specs.declared.source.Handler.{Handler}
 use Rattle.aseba_tree.specs.View.{handler_view}
 use Rattle.aseba_check.specs.declared.fault.Fault.{Fault}
-use Rattle.aseba_check.specs.Fits.{Fits, EachPartOf}
+use Rattle.aseba_tree.specs.Each.{EachPartOf}
+use Rattle.aseba_check.specs.Fits.{Fits}
 use Rattle.aseba_check.specs.Looked.{looked}
 use Rattle.aseba_check.specs.Statements.{Known, known_of}
 use Rattle.aseba_check.specs.Parts.{Seen, with_sub, with_event, part_told, parts_told}

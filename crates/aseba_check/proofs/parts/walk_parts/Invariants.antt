@@ -1,6 +1,7 @@
 use Rattle.std.proofs.Common.{◌≡◌, drop, map}
 use Rattle.aseba_tree.specs.View.{handler_view}
-use Rattle.aseba_check.specs.Fits.{Fits, EachPartOf}
+use Rattle.aseba_tree.specs.Each.{EachPartOf}
+use Rattle.aseba_check.specs.Fits.{Fits}
 use Rattle.aseba_check.specs.Looked.{looked}
 use Rattle.aseba_check.specs.Statements.{known_of}
 use Rattle.aseba_check.specs.Parts.{parts_told}

@@ -3,7 +3,8 @@ use Rattle.aseba_tree.specs.declared.decl.Decl.{Decl}
 use Rattle.aseba_tree.specs.declared.source.Handler.{Handler}
 use Rattle.aseba_tree.specs.View.{decl_view, handler_view, source_view}
 use Rattle.aseba_check.specs.declared.fault.Fault.{Fault}
-use Rattle.aseba_check.specs.Fits.{Fits, EachDecl, EachPartOf}
+use Rattle.aseba_tree.specs.Each.{EachDecl, EachPartOf}
+use Rattle.aseba_check.specs.Fits.{Fits}
 use Rattle.aseba_check.specs.Looked.{looked, nothing}
 use Rattle.aseba_check.specs.Declarations.{Names, all_declaring, decls_told, decl_sizes}
 use Rattle.aseba_check.specs.Statements.{Known, known_of, stmts_told}

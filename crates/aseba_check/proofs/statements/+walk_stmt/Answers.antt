@@ -3,7 +3,8 @@ use Rattle.aseba_tree.specs.declared.expr.Expr.{Expr}
 use Rattle.aseba_tree.specs.declared.stmt.ForHead.{ForHead}
 use Rattle.aseba_tree.specs.View.{expr_view, head_view, stmts_view}
 use Rattle.aseba_check.specs.declared.fault.Fault.{Fault}
-use Rattle.aseba_check.specs.Fits.{Fits, EachHead}
+use Rattle.aseba_tree.specs.Each.{EachHead}
+use Rattle.aseba_check.specs.Fits.{Fits}
 use Rattle.aseba_check.specs.Looked.{looked}
 use Rattle.aseba_check.specs.Statements as told
 use Rattle.aseba_check.proofs.Answering.{ok-is, on-ok}

@@ -1,6 +1,7 @@
 use Rattle.std.proofs.Common.{◌≡◌, drop}
 use Rattle.aseba_tree.specs.View.{stmts_view}
-use Rattle.aseba_check.specs.Fits.{Fits, EachStmts}
+use Rattle.aseba_tree.specs.Each.{EachStmts}
+use Rattle.aseba_check.specs.Fits.{Fits}
 use Rattle.aseba_check.specs.Statements.{known_of, stmts_told}
 use Rattle.aseba_check.proofs.statements.+walk_stmt.Given as goal
 

@@ -1,5 +1,5 @@
 use Rattle.std.proofs.Common.{◌∙◌, ap, map}
-use Rattle.aseba_check.specs.Places.{placed_view}
+use Rattle.aseba_tree.specs.View.{placed_view}
 use Rattle.aseba_compile.specs.StraightRead.{looked, with_places, with_constants}
 use Rattle.aseba_compile.proofs.straight.built.names_of.Goals as goal
 

@@ -1,5 +1,5 @@
 use Rattle.std.proofs.Common.{◌+◌, sym, ◌∙◌, ap, drop, map}
-use Rattle.aseba_check.specs.Places.{placed_view}
+use Rattle.aseba_tree.specs.View.{placed_view}
 use Rattle.aseba_compile.specs.StraightRead.{looked, with_places}
 use Rattle.aseba_compile.proofs.StraightLists.{next_item}
 use Rattle.aseba_compile.proofs.straight.names.add_places.Goals as goal
