@@ -2,9 +2,12 @@ pub mod ConstantLaws
 pub mod CoreRows
 pub mod ElementLaws
 pub mod FaultRows
+pub mod MeantLaws
 pub mod NumberRows
+pub mod PaceLaws
 pub mod Robot
 pub mod Rows
+pub mod RunLaws
 pub mod ScriptRows
 pub mod SizeLaws
 pub mod SoundProofs

@@ -21,6 +21,7 @@ pub mod Lines
 pub mod Moves
 pub mod Nest
 pub mod Numbers
+pub mod Run
 pub mod Script
 pub mod Shape
 pub mod Sizes
@@ -30,6 +31,7 @@ pub mod Spells
 pub mod State
 pub mod Step
 pub mod Templates
+pub mod Tied
 pub mod Tokens
 pub mod Value
 pub mod View
