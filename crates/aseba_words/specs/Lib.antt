@@ -1,4 +1,5 @@
 pub mod Cell
 pub mod Codes
+pub mod Names
 pub mod Natives
 pub mod formers

@@ -1,14 +1,36 @@
-ghost use Rattle.std.specs.Prelude.{◌≡◌, IfOk};
+ghost use Rattle.std.specs.Prelude.{◌≡◌, ◌≤◌, IfOk, IfSome, take};
 
 use crate::mem::Mem;
 use std::alloc::Global;
+use std::boxed::BoxedSlice;
+use std::fmt::{self, Debug, Formatter, Write};
 use std::hash::{Hash, Hasher};
 use std::marker::Model;
 
-/// A name or a text, as bytes that contracts see as a list.
-#[derive(Debug, Drop)]
+/// A name or a text, as bytes that contracts see as a list. Up to 23 bytes stand in the value
+/// itself, so that most names of a source take no memory.
+#[derive(Drop)]
 pub struct Name {
-    bytes: Vec<u8>,
+    held: Held,
+}
+
+/// Where the bytes of a name stand.
+#[derive(Drop)]
+enum Held {
+    /// In the value itself.
+    Short(Short),
+    /// Behind a pointer, in memory of their own.
+    Long(BoxedSlice<u8>),
+}
+
+/// The most bytes that stand in place. With one more a name would take more room.
+const ROOM: usize = 23;
+
+/// The first `len` of `bytes`.
+#[derive(Clone, Copy, Drop)]
+struct Short {
+    len: u8,
+    bytes: [u8; ROOM],
 }
 
 impl Model for Name {
@@ -16,7 +38,19 @@ impl Model for Name {
 
     ghost Value = { List ℕ };
 
-    ghost view = { λ name. name.bytes.items };
+    ghost use Rattle.aseba_words.specs.Names.{shown, FitsRoom};
+
+    ghost view = { λ name. shown name.held };
+
+    ghost invariant = { λ name. FitsRoom name.held };
+}
+
+impl Debug for Name {
+    fn fmt<W: Write>(&self, f: &mut Formatter<W>) -> fmt::Result {
+        f.debug_struct("Name")
+            .field("bytes", &self.as_bytes())
+            .finish()
+    }
 }
 
 impl PartialEq for Name {
@@ -56,19 +90,25 @@ impl Hash for Name {
 }
 
 impl Name {
-    /// A name of these bytes, whatever they are.
+    /// A name of these bytes, whatever they are. Up to 23 bytes take no memory.
     pub fn new(alloc: Global, bytes: &[u8]) -> Result<Name, Mem>
         ensures { IfOk result (λ name. name ≡ bytes.now) }
     {
-        let bytes = Vec::from_slice(alloc, bytes)?;
-        Ok(Name { bytes })
+        let held = match in_place(bytes) {
+            Some(short) => Held::Short(short),
+            None => Held::Long(BoxedSlice::from_slice(alloc, bytes)?),
+        };
+        Ok(Name { held })
     }
 
     /// The bytes. It takes no memory.
     pub fn as_bytes(&self) -> &[u8]
         ensures { result.now ≡ self.now }
     {
-        self.bytes.as_slice()
+        match &self.held {
+            Held::Short(short) => &short.bytes[..short.len as usize],
+            Held::Long(bytes) => bytes.as_slice(),
+        }
     }
 
     /// A name of the same bytes.
@@ -77,4 +117,19 @@ impl Name {
     {
         Name::new(alloc, self.as_bytes())
     }
+}
+
+/// The bytes in place, if there is room for them.
+fn in_place(bytes: &[u8]) -> Option<Short>
+    ensures { IfSome result (λ short. (short.len ≤ 23) × (take short.len short.bytes ≡ bytes.now)) }
+{
+    if bytes.len() > ROOM {
+        return None;
+    }
+    let mut room = [0; ROOM];
+    room[..bytes.len()].copy_from_slice(bytes);
+    Some(Short {
+        len: bytes.len() as u8,
+        bytes: room,
+    })
 }

@@ -140,3 +140,14 @@ fn a_name_is_its_bytes(rt: HostRuntime) -> Result<(), Mem> {
     goes_to_a_thread(&name);
     Ok(())
 }
+
+#[test]
+fn names_of_any_length(rt: HostRuntime) -> Result<(), Mem> {
+    let text = b"a.name.that.is.longer.than.the.room";
+    for len in [0, 1, 22, 23, 24, text.len()] {
+        let name = Name::new(rt.alloc(), &text[..len])?;
+        assert_eq!(rt; name.as_bytes(), &text[..len]);
+        assert!(rt; name.copy(rt.alloc())? == name);
+    }
+    Ok(())
+}
