@@ -1,3 +1,4 @@
+pub mod Bytes
 pub mod Cell
 pub mod Codes
 pub mod Names

@@ -3,12 +3,19 @@
 #![tactic(auto)]
 
 mod arithmetic;
+mod bytes;
+mod limits;
 mod list;
 mod mem;
 mod name;
 mod operators;
 
 pub use arithmetic::{binary, unary, wrap};
+pub use bytes::{begins_name, continues_name, is_blank, is_digit, is_name_like, is_within};
+pub use limits::{
+    LEAST_CODE, MOST_CELLS, MOST_CODE, MOST_CONSTS, MOST_EVENT_CELLS, MOST_EVENTS, MOST_LOCALS,
+    MOST_NAME_BYTES, MOST_NATIVE_BYTES, MOST_NATIVES, MOST_PARAMS, MOST_STACK, MOST_VARIABLES,
+};
 pub use list::List;
 pub use mem::Mem;
 pub use name::Name;
