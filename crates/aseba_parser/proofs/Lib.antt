@@ -23,6 +23,9 @@ pub mod Outcome
 pub mod OutcomeEnds
 pub mod OutcomeSteps
 pub mod Parses
+pub mod Scan
+pub mod ScanExprs
+pub mod ScanStmts
 pub mod Sound
 pub mod SoundExpr
 pub mod SoundStmt

@@ -1,3 +1,4 @@
+pub mod OneNest
 pub mod Parsed
 pub mod Reading
 pub mod Reads

@@ -9,6 +9,7 @@ mod events;
 mod expr;
 mod fault;
 mod lists;
+mod nest_law;
 mod nodes;
 mod operators;
 mod parser;
@@ -17,6 +18,7 @@ mod simple;
 mod tokens;
 
 pub use error::SyntaxError;
+pub use nest_law::nest_is_one;
 pub use parser::parse;
 
 #[cfg(test)]
