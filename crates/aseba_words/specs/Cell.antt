@@ -1,5 +1,5 @@
 -- The arithmetic of cells, on whole numbers. A cell holds a whole number from -32768 to 32767.
-use Rattle.std.specs.Prelude.{◌≡◌, ℕ, ◌*◌, ◌^◌, Bool, ◌&&◌, ◌||◌, not, Option, Some, None, ℤ, pos, neg_ℤ, ◌+ℤ◌, ◌-ℤ◌, ◌*ℤ◌, unsigned_abs, ◌≤ℤ◌, int_lt, int_div, int_rem, if◌then◌else◌}
+use Rattle.std.specs.Prelude.{◌≡◌, ℕ, ◌*◌, ◌^◌, Bool, true, false, ◌&&◌, ◌||◌, not, Option, Some, None, ℤ, pos, neg_ℤ, ◌+ℤ◌, ◌-ℤ◌, ◌*ℤ◌, unsigned_abs, ◌≤ℤ◌, int_lt, int_div, int_rem, if◌then◌else◌}
 use Rattle.std.specs.Int.{w16, int_wrap, int_rem_euclid, int_div_euclid, int_bit_or, int_bit_xor, int_bit_and}
 use Rattle.std.specs.Ordering.{int_eq}
 use Rattle.aseba_words.specs.declared.operators.Unary.{Unary}
@@ -60,3 +60,15 @@ binary_value Below a b = Some (truth (int_lt a b))
 binary_value AtMost a b = Some (truth (not (int_lt b a)))
 binary_value Or a b = Some (truth (is_true a || is_true b))
 binary_value And a b = Some (truth (is_true a && is_true b))
+
+-- whether both operands of an operator have one cell, and so its value: comparisons, `and` and `or`
+abbrev pub is_of_one_cell : Binary → Bool
+is_of_one_cell Equal = true
+is_of_one_cell Differ = true
+is_of_one_cell Above = true
+is_of_one_cell AtLeast = true
+is_of_one_cell Below = true
+is_of_one_cell AtMost = true
+is_of_one_cell Or = true
+is_of_one_cell And = true
+is_of_one_cell _ = false

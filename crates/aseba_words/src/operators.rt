@@ -1,4 +1,5 @@
 ghost use Rattle.std.specs.Prelude.{◌≡◌};
+ghost use Rattle.aseba_words.specs.Cell.{is_of_one_cell};
 ghost use Rattle.aseba_words.specs.Codes.{unary_code, binary_code, unary_coded, binary_coded};
 
 /// An operator of one cell.
@@ -56,6 +57,24 @@ pub enum Binary {
 }
 
 impl Binary {
+    /// Whether both operands have one cell, and so the value: comparisons, `and` and `or`. The other
+    /// operators work cell by cell.
+    pub fn is_of_one_cell(self) -> bool
+        ensures { result ≡ is_of_one_cell self }
+    {
+        match self {
+            Binary::Equal
+            | Binary::Differ
+            | Binary::Above
+            | Binary::AtLeast
+            | Binary::Below
+            | Binary::AtMost
+            | Binary::Or
+            | Binary::And => true,
+            _ => false,
+        }
+    }
+
     /// The operator's number in an instruction word, 0 to 17 in the order of the variants.
     pub fn code(self) -> u16
         ensures { result ≡ binary_code self }

@@ -1,7 +1,0 @@
-use Rattle.std.proofs.Common.{◌≡◌, ◌++◌, drop}
-use Rattle.aseba_tree.specs.Line.{blank_cells}
-use Rattle.aseba_tools.proofs.text.Text.push_cells.Given as goal
-
--- what was added, and the text of what remains, is the text of all
-abbrev pub invariant-loop-cell : goal.invariant-loop-cell
-invariant-loop-cell l = l.self ++ blank_cells (drop l.cell-index l.cells) ≡ l.fn.self ++ blank_cells l.cells
