@@ -25,8 +25,6 @@ mod sink;
 mod system_clock;
 mod system_files;
 mod tape;
-#[cfg(test)]
-mod tests;
 mod turn;
 mod writer_sink;
 
@@ -46,5 +44,5 @@ pub use no_dialer::{NoDialer, NoLink};
 pub use poll::{LinkPoll, PollAnswer, Polled};
 pub use sink::{PutFault, Sink};
 pub use system_clock::SystemClock;
-pub use system_files::SystemFiles;
+pub use system_files::{SystemFiles, read_to_limit};
 pub use writer_sink::WriterSink;

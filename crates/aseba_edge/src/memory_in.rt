@@ -80,7 +80,8 @@ impl MemoryIn {
 }
 
 impl MemoryIn {
-    pub(crate) fn mark(&self) -> u64
+    /// The number that its script gave the link, by which its user tells it from others.
+    pub fn mark(&self) -> u64
         ensures { result ≡ self.now.mark }
     {
         self.mark

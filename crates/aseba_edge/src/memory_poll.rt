@@ -42,7 +42,8 @@ impl MemoryPoll {
 }
 
 impl MemoryPoll {
-    pub(crate) fn mark(&self) -> u64
+    /// The number that its script gave the link, by which its user tells it from others.
+    pub fn mark(&self) -> u64
         ensures { result ≡ self.now.mark }
     {
         self.mark

@@ -56,11 +56,7 @@ fn read_whole<R: fs::Files>(alloc: Global, rt: &R, name: &str, limit: u64) -> io
 
 /// Reads what an input has left, unless that is longer than the limit. A read that was interrupted
 /// is tried again.
-pub(crate) fn read_to_limit<I: Read>(
-    alloc: Global,
-    input: &mut I,
-    limit: u64,
-) -> io::Result<FileAnswer>
+pub fn read_to_limit<I: Read>(alloc: Global, input: &mut I, limit: u64) -> io::Result<FileAnswer>
     ensures answer { IfOk result (λ answer.
         IfSome (I.remaining input.old) (λ left. Answers (Some left) limit answer)) }
     ensures within { IfOk result (λ answer. IsWithin limit answer) }

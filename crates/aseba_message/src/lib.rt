@@ -6,8 +6,6 @@ mod encoding;
 mod frame;
 mod law;
 mod reader;
-#[cfg(test)]
-mod tests;
 
 pub use encoding::encode;
 pub use frame::Frame;

@@ -10,8 +10,6 @@ mod dot;
 mod end;
 mod operation;
 mod stat;
-#[cfg(test)]
-mod tests;
 
 pub use call::native;
 pub use end::NativeEnd;

@@ -20,6 +20,3 @@ pub use list::List;
 pub use mem::Mem;
 pub use name::Name;
 pub use operators::{Binary, Unary};
-
-#[cfg(test)]
-mod tests;

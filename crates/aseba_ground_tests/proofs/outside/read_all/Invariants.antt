@@ -1,6 +1,6 @@
 use Rattle.std.proofs.Common.{◌≡◌}
 use Rattle.aseba_edge.specs.Link.{Gave}
-use Rattle.aseba_edge.proofs.tests.read_all.Given as goal
+use Rattle.aseba_ground_tests.proofs.outside.read_all.Given as goal
 
 -- what was kept is what the input gave, and it hasn't failed
 abbrev pub invariant-loop : goal.invariant-loop

@@ -1,5 +1,6 @@
-use crate::NativeEnd::{BadCall, Division, Done};
-use crate::{NativeEnd, native};
+//! The natives on small arrays of cells, worked by hand.
+use aseba_natives::NativeEnd::{BadCall, Division, Done};
+use aseba_natives::{NativeEnd, native};
 use std::process::Abort;
 
 /// The natives by their names.

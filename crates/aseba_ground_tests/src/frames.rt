@@ -1,4 +1,5 @@
-use crate::{Fed, FrameReader, Taken, encode};
+//! Frames in pieces of streams, worked by hand.
+use aseba_message::{Fed, FrameReader, Taken, encode};
 use aseba_words::List;
 use std::test::Fail;
 

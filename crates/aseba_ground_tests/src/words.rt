@@ -1,4 +1,5 @@
-use crate::{Binary, List, Mem, Name, Unary, binary, unary, wrap};
+//! Cells, lists and names.
+use aseba_words::{Binary, List, Mem, Name, Unary, binary, unary, wrap};
 use std::test::Fail;
 
 #[test]

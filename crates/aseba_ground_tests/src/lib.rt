@@ -1,0 +1,11 @@
+//! Tests of what every other crate stands on: cells and lists, the natives, the outside, and frames. It offers nothing.
+#![tactic(auto)]
+
+#[cfg(test)]
+mod frames;
+#[cfg(test)]
+mod natives;
+#[cfg(test)]
+mod outside;
+#[cfg(test)]
+mod words;
