@@ -20,6 +20,3 @@ pub use finding::native_line;
 pub use plain::is_plain;
 pub use reading::read_project;
 pub use spelling::write_project;
-
-#[cfg(test)]
-mod tests;

@@ -14,6 +14,3 @@ mod words;
 pub use error::LexError;
 pub use lexer::lex;
 pub use places::end_of;
-
-#[cfg(test)]
-mod tests;

@@ -20,6 +20,3 @@ mod tokens;
 pub use error::SyntaxError;
 pub use nest_law::nest_is_one;
 pub use parser::parse;
-
-#[cfg(test)]
-mod tests;

@@ -10,8 +10,6 @@ mod law;
 mod payload;
 mod reading;
 mod rows;
-#[cfg(test)]
-mod tests;
 mod writing;
 
 pub use decoding::decode;

@@ -34,6 +34,3 @@ pub use source::{Handler, Source};
 pub use spell_laws::each_token_has_nest;
 pub use stmt::{ForHead, Part, Stmt, StmtForm, Target};
 pub use token::{Key, Sign, Token, TokenKind};
-
-#[cfg(test)]
-mod tests;

@@ -1,4 +1,4 @@
-use crate::{ProjectError, default_project, is_plain, read_project, write_project};
+use aseba_describe::{ProjectError, default_project, is_plain, read_project, write_project};
 use std::alloc::Global;
 use std::test::Fail;
 

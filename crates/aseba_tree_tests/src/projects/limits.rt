@@ -1,5 +1,5 @@
-use crate::tests::texts::again;
-use crate::{ProjectError, read_project};
+use crate::projects::texts::again;
+use aseba_describe::{ProjectError, read_project};
 use std::alloc::Global;
 use std::test::Fail;
 

@@ -1,3 +1,4 @@
+//! Projects as text.
 mod bad_lines;
 mod limits;
 mod texts;

@@ -1,8 +1,77 @@
-use crate::tests::samples::*;
-use crate::{Const, Description, Native, Project, Sized};
-use aseba_words::{List, Mem};
+//! Nodes and projects at their limits and one past them.
+use aseba_tree::{Const, Description, Local, Native, Param, Project, Sized};
+use aseba_words::{List, Mem, Name};
 use std::alloc::Global;
 use std::test::Fail;
+
+fn name(alloc: Global) -> Result<Name, Mem> {
+    Name::new(alloc, b"led".as_slice())
+}
+
+/// A list of one element.
+fn alone<T: Drop>(alloc: Global, value: T) -> Result<List<T>, Mem> {
+    let mut list = List::new(alloc);
+    match list.push(value) {
+        Ok(()) => Ok(list),
+        Err(_) => Err(Mem),
+    }
+}
+
+/// A node with the least of everything.
+fn node(alloc: Global) -> Result<Description, Mem> {
+    let name = name(alloc)?;
+    Ok(Description {
+        name,
+        code: 4,
+        stack: 1,
+        cells: 1,
+        variables: List::new(alloc),
+        locals: List::new(alloc),
+        natives: List::new(alloc),
+    })
+}
+
+fn project(alloc: Global) -> Result<Project, Mem> {
+    let node = node(alloc)?;
+    Ok(Project {
+        node,
+        id: 0,
+        events: List::new(alloc),
+        consts: List::new(alloc),
+    })
+}
+
+/// A name of that many bytes.
+fn long(alloc: Global, length: usize) -> Result<Name, Mem> {
+    let bytes = vec![in alloc; b'a'; length]?;
+    Name::new(alloc, bytes.as_slice())
+}
+
+fn sized(alloc: Global, length: usize, size: u16) -> Result<Sized, Mem> {
+    let name = long(alloc, length)?;
+    Ok(Sized { name, size })
+}
+
+fn local(alloc: Global, name: usize, text: usize) -> Result<Local, Mem> {
+    let name = long(alloc, name)?;
+    let text = long(alloc, text)?;
+    Ok(Local { name, text })
+}
+
+fn native(alloc: Global, name: usize, text: usize) -> Result<Native, Mem> {
+    let name = long(alloc, name)?;
+    let text = long(alloc, text)?;
+    Ok(Native {
+        name,
+        text,
+        params: List::new(alloc),
+    })
+}
+
+fn param(alloc: Global, length: usize, size: i16) -> Result<Param, Mem> {
+    let name = long(alloc, length)?;
+    Ok(Param { size, name })
+}
 
 #[test]
 fn numbers_of_a_node(rt: HostRuntime) -> Result<(), Fail> {

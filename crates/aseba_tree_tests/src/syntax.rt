@@ -1,47 +1,15 @@
 //! Small sources and their trees or faults, worked by hand.
-use crate::{SyntaxError, parse};
+use aseba_describe::{ProjectError, read_project};
 use aseba_lexer::{end_of, lex};
-use aseba_tree::{Description, Expr, Form, Pos, Project, Sized, Source, StmtForm, Token};
-use aseba_words::{List, Mem, Name};
+use aseba_parser::{SyntaxError, parse};
+use aseba_tree::{Expr, Form, Pos, Project, Source, StmtForm, Token};
 use std::alloc::{AllocError, Global};
 use std::test::Fail;
 
-fn event(alloc: Global, name: &[u8], size: u16) -> Result<Sized, Mem> {
-    let name = Name::new(alloc, name)?;
-    Ok(Sized { name, size })
-}
-
-fn events(alloc: Global) -> Result<List<Sized>, Mem> {
-    let mut events = List::new(alloc);
-    for (name, size) in [(b"ping".as_slice(), 0), (b"pair".as_slice(), 2)] {
-        let event = event(alloc, name, size)?;
-        match events.push(event) {
-            Ok(()) => {}
-            Err(_) => return Err(Mem),
-        }
-    }
-    Ok(events)
-}
-
 /// A project with an event `ping` without cells and an event `pair` of two.
-fn project(alloc: Global) -> Result<Project, Mem> {
-    let events = events(alloc)?;
-    let name = Name::new(alloc, b"node".as_slice())?;
-    let node = Description {
-        name,
-        code: 2048,
-        stack: 32,
-        cells: 256,
-        variables: List::new(alloc),
-        locals: List::new(alloc),
-        natives: List::new(alloc),
-    };
-    Ok(Project {
-        node,
-        id: 1,
-        events,
-        consts: List::new(alloc),
-    })
+pub fn project(alloc: Global) -> Result<Project, ProjectError> {
+    let text = b"node node\ncode 2048\nvars 256\nstack 32\nid 1\nevent ping 0\nevent pair 2\n";
+    read_project(alloc, text.as_slice())
 }
 
 /// `tree`, or the place and kind of the fault.

@@ -1,5 +1,5 @@
 //! Texts and their tokens, worked by hand.
-use crate::{LexError, end_of, lex};
+use aseba_lexer::{LexError, end_of, lex};
 use aseba_tree::{Pos, Token, TokenKind};
 use aseba_words::List;
 use std::alloc::{AllocError, Global};

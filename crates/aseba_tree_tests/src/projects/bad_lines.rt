@@ -1,4 +1,4 @@
-use crate::{ProjectError, read_project};
+use aseba_describe::{ProjectError, read_project};
 use std::alloc::Global;
 use std::process::Abort;
 use std::test::Fail;

@@ -1,7 +1,8 @@
+//! Messages of each type, with their bytes, worked by hand.
 ghost use Rattle.std.specs.Prelude.{◌≤◌};
 
-use crate::{Payload, PayloadError, decode, to_frame};
 use aseba_message::Frame;
+use aseba_payload::{Payload, PayloadError, decode, to_frame};
 use aseba_words::List;
 use std::alloc::Global;
 use std::process::Abort;

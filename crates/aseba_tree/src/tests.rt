@@ -1,4 +1,0 @@
-//! Copies and limits on small values.
-mod copies;
-mod limits;
-mod samples;
