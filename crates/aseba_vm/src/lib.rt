@@ -16,6 +16,3 @@ pub use machine::Machine;
 pub use refusals::{OutOfCells, OutOfCode};
 pub use shape::Shape;
 pub use tick::{NodeFault, Notice, Tick};
-
-#[cfg(test)]
-mod tests;

@@ -1,4 +1,5 @@
-use crate::{Arrival, Machine, NodeFault, Notice, OutOfCells, OutOfCode, Shape, Tick};
+//! Small programs of words, run tick by tick.
+use aseba_vm::{Arrival, Machine, NodeFault, Notice, OutOfCells, OutOfCode, Shape, Tick};
 use std::process::Abort;
 use std::test::Fail;
 
