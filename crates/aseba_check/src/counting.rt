@@ -16,8 +16,6 @@ pub mod parts;
 mod statements;
 mod subs;
 mod taken;
-#[cfg(test)]
-mod tests;
 mod total;
 
 use crate::checked::Checked;

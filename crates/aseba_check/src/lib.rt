@@ -28,6 +28,3 @@ pub use checked::Checked;
 pub use checking::check;
 pub use counting::{Numbers, numbers};
 pub use error::CheckError;
-
-#[cfg(test)]
-mod tests;

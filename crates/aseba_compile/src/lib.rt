@@ -12,6 +12,3 @@ pub use passes::compile;
 pub use program::Program;
 pub use refusal::Refusal;
 pub use straight::straight_words_run;
-
-#[cfg(test)]
-mod tests;

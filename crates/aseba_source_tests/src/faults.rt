@@ -210,6 +210,14 @@ const NAMES: &[(&str, &str)] = &[
         "sub s\ncallsub t\nsub u\ncallsub s\nsub t\ncallsub u",
         "6:9 Recursion",
     ),
+    (
+        "onevent ping\ncallsub a\nsub b\ncallsub c\nsub c\ncallsub b\nsub a\ncallsub a",
+        "6:9 Recursion",
+    ),
+    (
+        "onevent ping\ncallsub a\nsub c\ncallsub b\nsub b\ncallsub a\nsub a\ncallsub a",
+        "8:9 Recursion",
+    ),
     ("var a[4000] var b[62] out = x", "1:29 Unknown"),
 ];
 

@@ -2,4 +2,8 @@
 #![tactic(auto)]
 
 #[cfg(test)]
+mod checked;
+#[cfg(test)]
+mod compiled;
+#[cfg(test)]
 mod faults;

@@ -1,5 +1,6 @@
-use crate::{Refusal, compile};
+//! Sources with their words, and refusals.
 use aseba_check::CheckError;
+use aseba_compile::{Refusal, compile};
 use aseba_describe::default_project;
 use aseba_tree::Pos;
 use std::test::Fail;
