@@ -21,6 +21,3 @@ pub use aseba_compile::Refusal;
 pub use status::Status;
 pub use telling::tell;
 pub use top::{Ran, run};
-
-#[cfg(test)]
-mod tests;

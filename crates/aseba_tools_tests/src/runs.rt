@@ -1,5 +1,6 @@
-use crate::run;
+//! The tools over files and outputs in memory.
 use aseba_edge::{MemoryClock, MemoryFile, MemoryFiles, MemorySink, NoDialer};
+use aseba_tools::run;
 use aseba_words::{List, Mem, Name};
 use std::alloc::Global;
 use std::process::Abort;
