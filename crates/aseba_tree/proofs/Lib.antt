@@ -2,6 +2,7 @@ pub mod ConstantLaws
 pub mod CoreRows
 pub mod ElementLaws
 pub mod FaultRows
+pub mod Keywords
 pub mod MeantLaws
 pub mod NumberRows
 pub mod PaceLaws

@@ -3,6 +3,7 @@ use Rattle.std.specs.Prelude.{ℕ, ◌+◌, Bool, true, false, not, ◌&&◌, �
 use Rattle.std.specs.List.{list_any}
 use Rattle.std.specs.Ordering.{int_eq}
 use Rattle.std.specs.Bool.{beq}
+use Rattle.aseba_words.specs.declared.limits.TheConstants.{MOST_CELLS}
 use Rattle.aseba_words.specs.declared.operators.Unary.{Unary}
 use Rattle.aseba_words.specs.declared.operators.Unary.TheVariants.{Minus, Abs, BitNot, Not}
 use Rattle.aseba_words.specs.declared.operators.Binary.{Binary}
@@ -245,7 +246,7 @@ abbrev mutual
 
 -- the size that a declaration gives: its number, if that is from 1 to 4096, and 1 where no size is written
 abbrev pub size_in_range : Option ℤ → Option ℕ
-size_in_range (Some (pos n)) = if nat_lt 0 n && nat_lt n 4097 then Some n else None
+size_in_range (Some (pos n)) = if nat_lt 0 n && nat_lt n (MOST_CELLS + 1) then Some n else None
 size_in_range _ = None
 
 abbrev pub given_size : Scope → Option Expr → Option ℕ
@@ -254,7 +255,7 @@ given_size scope (Some e) = size_in_range (constant_value scope e)
 
 abbrev pub size_out_of_range : Place → Option ℤ → List Fault
 size_out_of_range place None = []
-size_out_of_range place (Some v) = fault_if (int_lt v (pos 1)) place (bad_size (pos 1) v) ++ fault_if (int_lt (pos 4096) v) place (bad_size (pos 4096) v)
+size_out_of_range place (Some v) = fault_if (int_lt v (pos 1)) place (bad_size (pos 1) v) ++ fault_if (int_lt (pos MOST_CELLS) v) place (bad_size (pos MOST_CELLS) v)
 
 abbrev pub size_faults : Scope → Place → Option Expr → List Fault
 size_faults scope place None = []

@@ -1,5 +1,6 @@
 -- What a node and a project may measure. Which bytes a name holds, and the node's id, are left open.
 use Rattle.std.specs.Prelude.{ℕ, ◌+◌, ◌≤◌, ◌≢◌, pos, List, length, All, sum_by}
+use Rattle.aseba_words.specs.declared.limits.TheConstants.{LEAST_CODE, MOST_CODE, MOST_STACK, MOST_CELLS, MOST_EVENT_CELLS, MOST_VARIABLES, MOST_LOCALS, MOST_NATIVES, MOST_PARAMS, MOST_EVENTS, MOST_CONSTS, MOST_NAME_BYTES, MOST_NATIVE_BYTES}
 use Rattle.aseba_tree.specs.declared.description.Description.{Description}
 use Rattle.aseba_tree.specs.declared.description.Sized.{Sized}
 use Rattle.aseba_tree.specs.declared.description.Local.{Local}
@@ -10,7 +11,7 @@ use Rattle.aseba_tree.specs.declared.project.Const.{Const}
 
 -- a name or a text has at most 255 bytes
 abbrev pub IsShort : List ℕ → Type 0
-IsShort text = length text ≤ 255
+IsShort text = length text ≤ MOST_NAME_BYTES
 
 -- a number from least to most, both included
 abbrev pub IsFrom : ℕ → ℕ → ℕ → Type 0
@@ -53,8 +54,8 @@ native_message_len n = text_len n.name + text_len n.text + word_len + sum_by par
 pub record InsideNative (n : Native) : Type 0 where
   pub name : IsShort n.name
   pub text : IsShort n.text
-  pub params : IsUpTo 16 InsideParam n.params
-  pub message : native_message_len n ≤ 512
+  pub params : IsUpTo MOST_PARAMS InsideParam n.params
+  pub message : native_message_len n ≤ MOST_NATIVE_BYTES
 
 -- the cells of the named variables together
 abbrev pub named_cells : List Sized → ℕ
@@ -62,23 +63,23 @@ named_cells variables = sum_by (λ v. v.size) variables
 
 -- named variables for which a node with that many cells has room
 pub record InsideVariables (cells : ℕ) (variables : List Sized) : Type 0 where
-  pub each : IsUpTo 256 (InsideSized 1 4096) variables
+  pub each : IsUpTo MOST_VARIABLES (InsideSized 1 MOST_CELLS) variables
   pub room : named_cells variables ≤ cells
 
 -- A node has 4 to 32767 words of code, 1 to 1024 cells of stack and 1 to 4096 cells in all.
 pub record InsideDescription (d : Description) : Type 0 where
   pub name : IsShort d.name
-  pub code : IsFrom 4 32767 d.code
-  pub stack : IsFrom 1 1024 d.stack
-  pub cells : IsFrom 1 4096 d.cells
+  pub code : IsFrom LEAST_CODE MOST_CODE d.code
+  pub stack : IsFrom 1 MOST_STACK d.stack
+  pub cells : IsFrom 1 MOST_CELLS d.cells
   pub variables : InsideVariables d.cells d.variables
-  pub locals : IsUpTo 64 InsideLocal d.locals
-  pub natives : IsUpTo 64 InsideNative d.natives
+  pub locals : IsUpTo MOST_LOCALS InsideLocal d.locals
+  pub natives : IsUpTo MOST_NATIVES InsideNative d.natives
 
 pub record InsideConst (c : Const) : Type 0 where
   pub name : IsShort c.name
 
 pub record InsideProject (p : Project) : Type 0 where
   pub node : InsideDescription p.node
-  pub events : IsUpTo 256 (InsideSized 0 256) p.events
-  pub consts : IsUpTo 512 InsideConst p.consts
+  pub events : IsUpTo MOST_EVENTS (InsideSized 0 MOST_EVENT_CELLS) p.events
+  pub consts : IsUpTo MOST_CONSTS InsideConst p.consts

@@ -1,6 +1,7 @@
 -- What a run tells, line by line: as data, so that runs can be compared field by field, and as text.
-use Rattle.std.specs.Prelude.{ℕ, ℤ, List, [], ◌∷◌, ◌++◌, codes, decimal, flat_map, ◌/◌, ◌%◌, false}
-use Rattle.std.specs.Fmt.{signed_decimal, digit_glyph}
+use Rattle.std.specs.Prelude.{ℕ, ℤ, List, [], ◌∷◌, ◌++◌, codes, decimal, flat_map}
+use Rattle.std.specs.Fmt.{signed_decimal}
+pub use Rattle.aseba_words.specs.Spelled.{blank_number, blank_cells, word_text}
 use Rattle.aseba_tree.specs.Code.{Name}
 
 -- an event by its name, or by the number of one that the project doesn't have
@@ -45,13 +46,6 @@ line_by f (var name cells) = var name cells
 line_by f (end t k) = end t k
 
 -- a number behind a blank, and a list of cells with a blank before each
-abbrev pub blank_number : ℕ → List ℕ
-blank_number n = codes " " ++ decimal n
-
-abbrev pub blank_cells : List ℤ → List ℕ
-blank_cells [] = []
-blank_cells (v ∷ vs) = codes " " ++ signed_decimal v ++ blank_cells vs
-
 abbrev pub event_text : Event → List ℕ
 event_text (named name) = name
 event_text (numbered n) = decimal n
@@ -76,10 +70,6 @@ line_text (end t k) = codes "end " ++ decimal t ++ blank_number k
 abbrev pub lines_text : List Line → List ℕ
 lines_text [] = []
 lines_text (line ∷ lines) = line_text line ++ codes "\n" ++ lines_text lines
-
--- a word as four hexadecimal digits in lower case
-abbrev pub word_text : ℕ → List ℕ
-word_text word = digit_glyph false (word / 4096 % 16) ∷ digit_glyph false (word / 256 % 16) ∷ digit_glyph false (word / 16 % 16) ∷ digit_glyph false (word % 16) ∷ []
 
 -- the line that shows a program's words
 abbrev pub code_text : List ℕ → List ℕ

@@ -3,7 +3,7 @@ use Rattle.std.specs.Prelude.{ℕ, ◌+◌, Bool, true, false, ◌&&◌, if◌th
 use Rattle.aseba_words.specs.declared.operators.Unary.{Unary}
 use Rattle.aseba_words.specs.declared.operators.Unary.TheVariants.{Minus, Abs, BitNot, Not}
 use Rattle.aseba_words.specs.declared.operators.Binary.{Binary}
-use Rattle.aseba_words.specs.declared.operators.Binary.TheVariants.{Equal, Differ, Above, AtLeast, Below, AtMost, Or, And}
+pub use Rattle.aseba_words.specs.Cell.{is_of_one_cell}
 use Rattle.aseba_words.specs.Cell.{unary_value, binary_value}
 use Rattle.aseba_tree.specs.Value.{constant_number}
 use Rattle.aseba_tree.specs.Code.{Name, Expr, expr, Form, number, whole, index, range, items, one, two, Exprs, no_exprs, exprs, Part, all, at, span, Target, Const}
@@ -74,18 +74,6 @@ abbrev mutual
   pub constant_list : Scope → Exprs → Option ℤ
   constant_list scope no_exprs = None
   constant_list scope (exprs e es) = alone (constant_value scope e) es
-
--- whether both operands of an operator have one cell, and so its value
-abbrev pub is_of_one_cell : Binary → Bool
-is_of_one_cell Equal = true
-is_of_one_cell Differ = true
-is_of_one_cell Above = true
-is_of_one_cell AtLeast = true
-is_of_one_cell Below = true
-is_of_one_cell AtMost = true
-is_of_one_cell Or = true
-is_of_one_cell And = true
-is_of_one_cell _ = false
 
 -- the size that both sides have
 abbrev pub common_size : Option ℕ → Option ℕ → Option ℕ

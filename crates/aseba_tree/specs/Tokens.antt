@@ -1,8 +1,10 @@
 -- The tokens of a text: what spells a token, and when a text is the spellings of a list of tokens with blanks and comments between them.
-use Rattle.std.specs.Prelude.{◌≡◌, ℕ, ◌+◌, ◌-◌, ◌*◌, ◌==◌, nat_lt, nat_le, Bool, true, false, not, ◌&&◌, ◌||◌, if◌then◌else◌, ℤ, pos, List, [], ◌∷◌, ◌++◌, drop, codes, find, fold, Option, Some, None, option_map, is_some}
+use Rattle.std.specs.Prelude.{◌≡◌, ℕ, ◌+◌, ◌-◌, ◌*◌, ◌==◌, nat_lt, nat_le, Bool, true, false, not, ◌&&◌, ◌||◌, if◌then◌else◌, ℤ, pos, List, [], ◌∷◌, ◌++◌, drop, codes, find, fold, Option, Some, None, option_map, is_some, length, IsTrue}
 use Rattle.std.specs.List.{list_all, starts_with}
 use lib.Dec.{eqb}
 use lib.Pointwise.{pointwise}
+pub use Rattle.aseba_words.specs.Bytes.{is_within, is_blank, is_digit, is_name_start, is_word_byte, is_name_like}
+use Rattle.aseba_words.specs.declared.limits.TheConstants.{MOST_NAME_BYTES}
 use Rattle.aseba_words.specs.Cell.{wrapped}
 use Rattle.aseba_tree.specs.declared.pos.Pos.{Pos}
 use Rattle.aseba_tree.specs.declared.token.Token.{Token}
@@ -20,24 +22,6 @@ first_place = record { line = 1; col = 1 }
 abbrev pub behind : Pos → List ℕ → Pos
 behind at [] = at
 behind at (b ∷ bytes) = behind (if b == 10 then record { line = at.line + 1; col = 1 } else record { line = at.line; col = at.col + 1 }) bytes
-
-abbrev pub is_within : ℕ → ℕ → ℕ → Bool
-is_within low high b = nat_le low b && nat_le b high
-
--- space, tab, carriage return and line feed
-abbrev pub is_blank : ℕ → Bool
-is_blank b = b == 32 || b == 9 || b == 13 || b == 10
-
-abbrev pub is_digit : ℕ → Bool
-is_digit b = is_within 48 57 b
-
--- a letter or `_`
-abbrev pub is_name_start : ℕ → Bool
-is_name_start b = is_within 97 122 b || is_within 65 90 b || b == 95
-
--- a letter, a digit, `_` or `.`
-abbrev pub is_word_byte : ℕ → Bool
-is_word_byte b = is_name_start b || is_digit b || b == 46
 
 -- a byte of a hexadecimal number, of either case
 abbrev pub is_hex_digit : ℕ → Bool
@@ -90,6 +74,17 @@ symbols =
 -- what a table of spellings has for the bytes
 abbrev pub spelled_in : {A : Type 0} → List (List ℕ × A) → List ℕ → Option A
 spelled_in table bytes = option_map (λ row. row.1) (find (λ row. pointwise eqb row.0 bytes) table)
+
+-- one of the keywords
+unfoldable pub is_keyword : List ℕ → Bool
+is_keyword bytes = is_some (spelled_in keywords bytes)
+
+-- a name that a text may give: at most as many bytes as a name has, and no keyword
+abbrev pub is_name : List ℕ → Bool
+is_name name = nat_le (length name) MOST_NAME_BYTES && is_name_like name && not (is_keyword name)
+
+abbrev pub IsName : List ℕ → Type 0
+IsName name = IsTrue (is_name name)
 
 -- a name, a keyword or a number, well spelled or not: letters, digits, `_` and `.`, the first of them no `.`
 abbrev pub is_word : List ℕ → Bool

@@ -4,7 +4,11 @@ ghost use Rattle.aseba_tree.specs.Inside.{IsShort, IsFrom, IsUpTo, InsideSized, 
 
 use crate::description::{Description, Local, Native, Param, Sized};
 use crate::project::{Const, Project};
-use aseba_words::Name;
+use aseba_words::{
+    LEAST_CODE, MOST_CELLS, MOST_CODE, MOST_CONSTS, MOST_EVENT_CELLS, MOST_EVENTS, MOST_LOCALS,
+    MOST_NAME_BYTES, MOST_NATIVE_BYTES, MOST_NATIVES, MOST_PARAMS, MOST_STACK, MOST_VARIABLES,
+    Name,
+};
 
 impl Description {
     /// Whether its numbers, sizes and counts are those of a node that can be built, its named
@@ -14,9 +18,9 @@ impl Description {
         ensures { IsTrue result ↔ InsideDescription self.now }
     {
         is_short(&self.name)
-            && is_from(4, 32767, self.code)
-            && is_from(1, 1024, self.stack)
-            && is_from(1, 4096, self.cells)
+            && is_from(LEAST_CODE, MOST_CODE, self.code)
+            && is_from(1, MOST_STACK, self.stack)
+            && is_from(1, MOST_CELLS, self.cells)
             && are_variables(self.cells, self.variables.as_slice())
             && are_locals(self.locals.as_slice())
             && are_natives(self.natives.as_slice())
@@ -30,7 +34,7 @@ impl Project {
         ensures { IsTrue result ↔ InsideProject self.now }
     {
         self.node.inside()
-            && are_sized(256, 0, 256, self.events.as_slice())
+            && are_sized(MOST_EVENTS, 0, MOST_EVENT_CELLS, self.events.as_slice())
             && are_consts(self.consts.as_slice())
     }
 }
@@ -38,12 +42,12 @@ impl Project {
 fn are_variables(cells: u16, variables: &[Sized]) -> bool
     ensures { IsTrue result ↔ InsideVariables cells variables.now }
 {
-    are_sized(256, 1, 4096, variables) && cells_of(variables) <= u32::from(cells)
+    are_sized(MOST_VARIABLES, 1, MOST_CELLS, variables) && cells_of(variables) <= u32::from(cells)
 }
 
 /// The cells of the named variables together.
 fn cells_of(variables: &[Sized]) -> u32
-    requires { length variables.now ≤ 256 }
+    requires { length variables.now ≤ MOST_VARIABLES }
     ensures { result ≡ named_cells variables.now }
 {
     let mut cells = 0;
@@ -63,27 +67,27 @@ fn are_sized(most: usize, least_size: u16, most_size: u16, items: &[Sized]) -> b
 }
 
 fn are_locals(locals: &[Local]) -> bool
-    ensures { IsTrue result ↔ IsUpTo 64 InsideLocal locals.now }
+    ensures { IsTrue result ↔ IsUpTo MOST_LOCALS InsideLocal locals.now }
 {
-    locals.len() <= 64 && locals.iter().all(|local| local.is_inside())
+    locals.len() <= MOST_LOCALS && locals.iter().all(|local| local.is_inside())
 }
 
 fn are_natives(natives: &[Native]) -> bool
-    ensures { IsTrue result ↔ IsUpTo 64 InsideNative natives.now }
+    ensures { IsTrue result ↔ IsUpTo MOST_NATIVES InsideNative natives.now }
 {
-    natives.len() <= 64 && natives.iter().all(|native| native.is_inside())
+    natives.len() <= MOST_NATIVES && natives.iter().all(|native| native.is_inside())
 }
 
 fn are_params(params: &[Param]) -> bool
-    ensures { IsTrue result ↔ IsUpTo 16 InsideParam params.now }
+    ensures { IsTrue result ↔ IsUpTo MOST_PARAMS InsideParam params.now }
 {
-    params.len() <= 16 && params.iter().all(|param| param.is_inside())
+    params.len() <= MOST_PARAMS && params.iter().all(|param| param.is_inside())
 }
 
 fn are_consts(consts: &[Const]) -> bool
-    ensures { IsTrue result ↔ IsUpTo 512 InsideConst consts.now }
+    ensures { IsTrue result ↔ IsUpTo MOST_CONSTS InsideConst consts.now }
 {
-    consts.len() <= 512 && consts.iter().all(|constant| constant.is_inside())
+    consts.len() <= MOST_CONSTS && consts.iter().all(|constant| constant.is_inside())
 }
 
 impl Sized {
@@ -117,14 +121,14 @@ impl Native {
         is_short(&self.name)
             && is_short(&self.text)
             && are_params(self.params.as_slice())
-            && self.message_len() <= 512
+            && self.message_len() <= MOST_NATIVE_BYTES
     }
 
     /// How many bytes the message takes by which a node tells of this native.
     fn message_len(&self) -> usize
         requires name { IsShort self.now.name }
         requires text { IsShort self.now.text }
-        requires params { IsUpTo 16 InsideParam self.now.params }
+        requires params { IsUpTo MOST_PARAMS InsideParam self.now.params }
         ensures { result ≡ native_message_len self.now }
     {
         let mut params = 0;
@@ -147,7 +151,7 @@ impl Const {
 fn is_short(text: &Name) -> bool
     ensures { IsTrue result ↔ IsShort text.now }
 {
-    text.as_bytes().len() <= 255
+    text.as_bytes().len() <= MOST_NAME_BYTES
 }
 
 fn is_from(least: u16, most: u16, number: u16) -> bool
