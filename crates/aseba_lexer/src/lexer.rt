@@ -3,14 +3,14 @@ ghost use Rattle.aseba_tree.specs.Tokens.{Tokens};
 ghost use Rattle.aseba_lexer.specs.Found as found;
 ghost use Rattle.aseba_lexer.specs.Lexed.{TellsFault, IsDecided};
 
-use crate::bytes::{begins_word, is_blank};
+use crate::bytes::begins_word;
 use crate::comments::{block_len, line_len};
 use crate::error::LexError;
 use crate::places::{START, behind};
 use crate::signs::sign_at;
 use crate::words::{kind_of_word, word_rest};
 use aseba_tree::{Pos, Token, TokenKind};
-use aseba_words::List;
+use aseba_words::{List, is_blank};
 use std::alloc::Global;
 
 /// The tokens of a text, each with the place of its first byte, in time linear in the text. They

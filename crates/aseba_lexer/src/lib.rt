@@ -4,7 +4,6 @@
 mod bytes;
 mod comments;
 mod error;
-mod keys;
 mod lexer;
 mod numbers;
 mod places;

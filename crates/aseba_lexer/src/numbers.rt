@@ -1,7 +1,7 @@
 ghost use Rattle.std.specs.Prelude.{◌≡◌, ◌≤◌, ◌<◌, ◌+◌};
 ghost use Rattle.aseba_lexer.specs.Numbers as numbers;
 
-use crate::bytes::is_digit;
+use aseba_words::is_digit;
 
 /// The number that a word spells, decimal, hexadecimal behind `0x` or binary behind `0b`.
 pub fn number_of(word: &[u8]) -> Option<u32>

@@ -3,11 +3,9 @@ ghost use Rattle.aseba_tree.specs.declared.token.TokenKind.{TokenKind as Kind};
 ghost use Rattle.aseba_tree.specs.Tokens as tokens;
 ghost use Rattle.aseba_lexer.specs.Found as found;
 
-use crate::bytes::{goes_on_word, is_digit};
-use crate::keys::key_of_word;
 use crate::numbers::number_of;
-use aseba_tree::TokenKind;
-use aseba_words::{Mem, Name, wrap};
+use aseba_tree::{Key, TokenKind};
+use aseba_words::{Mem, Name, continues_name, is_digit, wrap};
 use std::alloc::Global;
 
 /// How far a word goes on behind its first byte.
@@ -15,7 +13,7 @@ pub fn word_rest(text: &[u8]) -> usize
     ensures value { result ≡ found.word_rest text.now }
     ensures within { result ≤ length text.now }
 {
-    text.iter().take_while(|b| goes_on_word(**b)).count()
+    text.iter().take_while(|b| continues_name(**b)).count()
 }
 
 /// The token that a word is, none for one that begins with a digit and is no number.
@@ -41,7 +39,7 @@ fn number_kind(word: &[u8]) -> Option<TokenKind>
 fn key_or_name(alloc: Global, word: &[u8]) -> Result<TokenKind, Mem>
     ensures { IfOk result (λ kind. kind ≡ tokens.keyword_or_name (tokens.spelled_in tokens.keywords word.now) word.now) }
 {
-    match key_of_word(word) {
+    match Key::of_word(word) {
         Some(key) => Ok(TokenKind::Key(key)),
         None => Ok(TokenKind::Name(Name::new(alloc, word)?)),
     }
