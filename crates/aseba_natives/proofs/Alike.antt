@@ -3,7 +3,9 @@ use Rattle.std.proofs.Common.{◌≡◌, ℕ, zero, suc, ◌+◌, ◌<◌, ◌�
 use Rattle.std.specs.List.{range_with_len}
 use Rattle.std.specs.Int.{int_min, int_max}
 use Rattle.aseba_words.specs.Cell.{wrapped, divided}
-use Rattle.aseba_words.specs.Natives.{Native, Copy, Fill, AddScalar, Add, Sub, Mul, Div, Min, Max, Clamp, Dot, MulDiv, Stat, ArgBounds, sizes, param_cells, native_numbered, clamped, product_sum, shifted, least, greatest, mean, first_place, each, stored, cells_of, run_native, numbered_run, native_run}
+use Rattle.aseba_words.specs.declared.native.Native.{Native}
+use Rattle.aseba_words.specs.declared.native.Native.TheVariants.{Copy, Fill, AddScalar, Add, Sub, Mul, Div, Min, Max, Clamp, Dot, MulDiv, Stat, ArgBounds}
+use Rattle.aseba_words.specs.Natives.{sizes, param_cells, native_numbered, clamped, product_sum, shifted, least, greatest, mean, first_place, each, stored, cells_of, run_native, numbered_run, native_run}
 
 ap2 : {A B C : Type 0} (f : A → B → C) {a a' : A} {b b' : B} → a ≡ a' → b ≡ b' → f a b ≡ f a' b'
 ap2 f {a} {a'} {b} {b'} p q = ap (λ x. f x b) p ∙ ap (λ y. f a' y) q

@@ -2,7 +2,9 @@
 use Rattle.std.proofs.Common.{◌≡◌, ℕ, zero, suc, ◌+◌, ◌<◌, Bool, true, false, List, [], ◌∷◌, length, if◌then◌else◌, Option, Some, None, IsSomeAnd, ℤ, pos, ◌*ℤ◌, int_div, refl, sym, ap, ◌∙◌, subst, arith}
 use Rattle.std.proofs.lemmas.Int.{ints}
 use Rattle.aseba_words.specs.Cell.{divided}
-use Rattle.aseba_words.specs.Natives.{Native, Copy, Fill, AddScalar, Add, Sub, Mul, Div, Min, Max, Clamp, Dot, MulDiv, Stat, ArgBounds, each, stored, run_native, numbered_run, native_numbered}
+use Rattle.aseba_words.specs.declared.native.Native.{Native}
+use Rattle.aseba_words.specs.declared.native.Native.TheVariants.{Copy, Fill, AddScalar, Add, Sub, Mul, Div, Min, Max, Clamp, Dot, MulDiv, Stat, ArgBounds}
+use Rattle.aseba_words.specs.Natives.{each, stored, run_native, numbered_run, native_numbered}
 use Rattle.aseba_natives.specs.Call.{cell, with_cell, divisors, is_call, called, end_of, call_end, EndCause, addresses, params_of, call_len}
 use Rattle.aseba_natives.specs.declared.end.NativeEnd.TheVariants.{BadCall}
 

@@ -1,7 +1,9 @@
 -- A call of a native on a flat list of cells, where a parameter's cells begin at an address.
 use Rattle.std.specs.Prelude.{◌≡◌, ℕ, ◌+◌, ◌<◌, Bool, true, false, ◌&&◌, if◌then◌else◌, nat_eq, nat_le, List, [], ◌∷◌, length, take, slice_index, slice_index_or, slice_set, Option, Some, None, IsSomeAnd, ℤ, pos, IsTrue, IsFalse}
 use Rattle.std.specs.Option.{unwrap_or}
-use Rattle.aseba_words.specs.Natives.{Native, Div, MulDiv, native_numbered, native_params, has_template, param_cells, native_run}
+use Rattle.aseba_words.specs.declared.native.Native.{Native}
+use Rattle.aseba_words.specs.declared.native.Native.TheVariants.{Div, MulDiv}
+use Rattle.aseba_words.specs.Natives.{native_numbered, native_params, has_template, param_cells, native_run}
 use Rattle.aseba_natives.specs.declared.end.NativeEnd.{NativeEnd}
 use Rattle.aseba_natives.specs.declared.end.NativeEnd.TheVariants.{Done, BadCall, Division}
 

@@ -2,8 +2,9 @@
 use Rattle.std.specs.Prelude.{ℕ, ◌+◌, ◌<◌, ◌≤◌, Bool, ◌&&◌, nat_eq, List, [], ◌∷◌, length, slice_index, Option, Some, ℤ, ◌+ℤ◌, ◌-ℤ◌, ◌*ℤ◌, int_div}
 use Rattle.std.specs.Int.{int_min, int_max}
 use Rattle.aseba_words.specs.Cell.{wrapped, divided}
-use Rattle.aseba_words.specs.Natives as natives
-use Rattle.aseba_words.specs.Natives.{Native, clamped, param_cells}
+use Rattle.aseba_words.specs.declared.native.Native.TheVariants as natives
+use Rattle.aseba_words.specs.declared.native.Native.{Native}
+use Rattle.aseba_words.specs.Natives.{clamped, param_cells}
 use Rattle.aseba_natives.specs.Call.{cell, is_valid_len, all_inside}
 use Rattle.aseba_natives.specs.declared.cellwise.Cellwise.{Cellwise}
 use Rattle.aseba_natives.specs.declared.cellwise.Cellwise.TheVariants.{Copy, Fill, AddScalar, Add, Sub, Mul, Div, Min, Max, Clamp, MulDiv}

@@ -1,5 +1,6 @@
 ghost use Rattle.std.specs.Prelude.{◌≡◌, ◌+◌, ◌≤◌, ◌<◌, length, [], ◌∷◌};
-ghost use Rattle.aseba_words.specs.Natives.{ArgBounds, run_native};
+ghost use Rattle.aseba_words.specs.declared.native.Native.TheVariants.{ArgBounds};
+ghost use Rattle.aseba_words.specs.Natives.{run_native};
 ghost use Rattle.aseba_natives.specs.Call.{cell, with_cell};
 
 use crate::array::{array, first_place, greatest, least};

@@ -1,10 +1,11 @@
 ghost use Rattle.std.specs.Prelude.{◌≡◌, length};
 ghost use Rattle.aseba_words.specs.Natives.{sizes};
 ghost use Rattle.aseba_natives.specs.Call.{call_end, call_cells, EndCause, is_valid_len, all_inside};
-ghost use Rattle.aseba_natives.specs.Operation.{native_of, starts_fit};
+ghost use Rattle.aseba_natives.specs.Operation.{starts_fit};
 
 use crate::end::NativeEnd;
-use crate::operation::{Operation, TEMPLATE};
+use crate::operation::Operation;
+use aseba_words::{Native, TEMPLATE};
 
 /// Calls the native `id` on the cells. The arguments are the addresses of its parameters in order
 /// and then the length of its templates, 1 to 4096. Cells that it stores are read again by what it
@@ -14,24 +15,24 @@ pub fn native(id: u16, cells: &mut [i16], args: &[u16]) -> NativeEnd
     ensures cells { cells.new ≡ call_cells id args.now cells.old }
     ensures cause { EndCause result id args.now cells.old }
 {
-    let Some(operation) = Operation::numbered(id) else {
+    let Some(called) = Native::numbered(id) else {
         return NativeEnd::BadCall;
     };
     let Some((len, starts)) = args.split_last() else {
         return NativeEnd::BadCall;
     };
-    if !fits(operation, starts, *len, cells.len()) {
+    if !fits(called, starts, *len, cells.len()) {
         return NativeEnd::BadCall;
     }
-    operation.run(cells, starts, *len)
+    Operation::of(called).run(cells, starts, *len)
 }
 
 /// Whether a native can be called with this length on parameters that begin at these addresses,
 /// among as many cells as `count` says.
-fn fits(operation: Operation, starts: &[u16], len: u16, count: usize) -> bool
-    ensures { result ≡ starts_fit count (sizes (native_of operation)) len starts.now }
+fn fits(called: Native, starts: &[u16], len: u16, count: usize) -> bool
+    ensures { result ≡ starts_fit count (sizes called) len starts.now }
 {
-    let sizes = operation.sizes();
+    let sizes = called.sizes();
     starts.len() == sizes.len() && is_valid_len(len) && all_inside(sizes, starts, len, count)
 }
 

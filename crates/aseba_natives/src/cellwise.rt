@@ -6,7 +6,6 @@ ghost use Rattle.aseba_natives.specs.Operation.{native_of_cellwise, cellwise_val
 
 use crate::arithmetic::{product, quotient};
 use crate::end::NativeEnd;
-use crate::operation::TEMPLATE;
 use aseba_words::{Binary, binary, wrap};
 
 /// A native that gives its destination cell by cell.
@@ -26,24 +25,6 @@ pub enum Cellwise {
 }
 
 impl Cellwise {
-    /// The sizes of the native's parameters, the destination first.
-    pub fn sizes(self) -> &'static [i16]
-        ensures { result.now ≡ sizes (native_of_cellwise self) }
-    {
-        match self {
-            Cellwise::Copy => &[TEMPLATE, TEMPLATE],
-            Cellwise::Fill => &[TEMPLATE, 1],
-            Cellwise::AddScalar => &[TEMPLATE, TEMPLATE, 1],
-            Cellwise::Add
-            | Cellwise::Sub
-            | Cellwise::Mul
-            | Cellwise::Div
-            | Cellwise::Min
-            | Cellwise::Max => { &[TEMPLATE, TEMPLATE, TEMPLATE] }
-            Cellwise::Clamp | Cellwise::MulDiv => &[TEMPLATE, TEMPLATE, TEMPLATE, TEMPLATE],
-        }
-    }
-
     /// Gives the destination's cells one after the other, up to the first zero divisor. Each is
     /// given of the cells as they stand then, so it may be read again where parameters overlap.
     pub fn run(self, cells: &mut [i16], starts: &[u16], len: u16) -> NativeEnd

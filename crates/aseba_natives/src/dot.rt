@@ -1,6 +1,7 @@
 ghost use Rattle.std.specs.Prelude.{◌≡◌, ◌+◌, ◌≤◌, ◌<◌, ◌^◌, length, [], ◌∷◌, pos, unsigned_abs};
 ghost use Rattle.std.specs.Int.{int_rem_euclid, int_div_euclid};
-ghost use Rattle.aseba_words.specs.Natives.{Dot, run_native};
+ghost use Rattle.aseba_words.specs.declared.native.Native.TheVariants.{Dot};
+ghost use Rattle.aseba_words.specs.Natives.{run_native};
 ghost use Rattle.aseba_natives.specs.Call.{cell, with_cell};
 
 use crate::array::{array, product_sum};

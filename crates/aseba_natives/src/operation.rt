@@ -1,6 +1,5 @@
 ghost use Rattle.std.specs.Prelude.{◌≡◌, ◌<◌, ◌≤◌, length};
-ghost use Rattle.std.specs.Option.{option_map};
-ghost use Rattle.aseba_words.specs.Natives.{native_numbered, sizes, run_native};
+ghost use Rattle.aseba_words.specs.Natives.{sizes, run_native};
 ghost use Rattle.aseba_natives.specs.Call.{cell, with_cell, end_of};
 ghost use Rattle.aseba_natives.specs.Operation.{native_of, RangesInside};
 
@@ -9,9 +8,7 @@ use crate::cellwise::Cellwise;
 use crate::dot::dot;
 use crate::end::NativeEnd;
 use crate::stat::stat;
-
-/// The size of a parameter that has as many cells as the call's length says.
-pub const TEMPLATE: i16 = -1;
+use aseba_words::Native;
 
 /// What a native does.
 #[derive(Clone, Copy)]
@@ -27,39 +24,25 @@ pub enum Operation {
 }
 
 impl Operation {
-    /// The native of a number, if there is one.
-    pub fn numbered(id: u16) -> Option<Operation>
-        ensures { option_map native_of result ≡ native_numbered id }
+    /// How a native does its work.
+    pub fn of(native: Native) -> Operation
+        ensures { native_of result ≡ native }
     {
-        let operation = match id {
-            0 => Operation::Each(Cellwise::Copy),
-            1 => Operation::Each(Cellwise::Fill),
-            2 => Operation::Each(Cellwise::AddScalar),
-            3 => Operation::Each(Cellwise::Add),
-            4 => Operation::Each(Cellwise::Sub),
-            5 => Operation::Each(Cellwise::Mul),
-            6 => Operation::Each(Cellwise::Div),
-            7 => Operation::Each(Cellwise::Min),
-            8 => Operation::Each(Cellwise::Max),
-            9 => Operation::Each(Cellwise::Clamp),
-            10 => Operation::Dot,
-            11 => Operation::Each(Cellwise::MulDiv),
-            12 => Operation::Stat,
-            13 => Operation::ArgBounds,
-            _ => return None,
-        };
-        Some(operation)
-    }
-
-    /// The sizes of the native's parameters, in order.
-    pub fn sizes(self) -> &'static [i16]
-        ensures { result.now ≡ sizes (native_of self) }
-    {
-        match self {
-            Operation::Each(cellwise) => cellwise.sizes(),
-            Operation::Dot => &[1, TEMPLATE, TEMPLATE, 1],
-            Operation::Stat => &[TEMPLATE, 1, 1, 1],
-            Operation::ArgBounds => &[TEMPLATE, 1, 1],
+        match native {
+            Native::Copy => Operation::Each(Cellwise::Copy),
+            Native::Fill => Operation::Each(Cellwise::Fill),
+            Native::AddScalar => Operation::Each(Cellwise::AddScalar),
+            Native::Add => Operation::Each(Cellwise::Add),
+            Native::Sub => Operation::Each(Cellwise::Sub),
+            Native::Mul => Operation::Each(Cellwise::Mul),
+            Native::Div => Operation::Each(Cellwise::Div),
+            Native::Min => Operation::Each(Cellwise::Min),
+            Native::Max => Operation::Each(Cellwise::Max),
+            Native::Clamp => Operation::Each(Cellwise::Clamp),
+            Native::Dot => Operation::Dot,
+            Native::MulDiv => Operation::Each(Cellwise::MulDiv),
+            Native::Stat => Operation::Stat,
+            Native::ArgBounds => Operation::ArgBounds,
         }
     }
 

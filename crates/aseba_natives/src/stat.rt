@@ -1,5 +1,6 @@
 ghost use Rattle.std.specs.Prelude.{◌≡◌, ◌+◌, ◌≤◌, ◌<◌, length, [], ◌∷◌};
-ghost use Rattle.aseba_words.specs.Natives.{Stat, run_native};
+ghost use Rattle.aseba_words.specs.declared.native.Native.TheVariants.{Stat};
+ghost use Rattle.aseba_words.specs.Natives.{run_native};
 ghost use Rattle.aseba_natives.specs.Call.{cell, with_cell};
 
 use crate::array::{array, greatest, least, mean};

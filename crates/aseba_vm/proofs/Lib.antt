@@ -1,3 +1,4 @@
+pub mod Arguments
 pub mod CodeKept
 pub mod Held
 pub mod Overwrites

@@ -4,8 +4,9 @@ use Rattle.std.proofs.lemmas.List.{length-set, length-replicate}
 use Rattle.std.specs.Int.{int_min, int_max}
 use Rattle.std.specs.Option.{option_map}
 use Rattle.aseba_words.specs.Cell.{wrapped, divided}
-use Rattle.aseba_words.specs.Natives as natives
-use Rattle.aseba_words.specs.Natives.{Native, native_numbered, native_params, clamped, each, stored, run_native, numbered_run}
+use Rattle.aseba_words.specs.declared.native.Native.TheVariants as natives
+use Rattle.aseba_words.specs.declared.native.Native.{Native}
+use Rattle.aseba_words.specs.Natives.{native_numbered, native_params, clamped, each, stored, run_native, numbered_run}
 use Rattle.aseba_natives.specs.declared.end.NativeEnd.{NativeEnd}
 use Rattle.aseba_natives.specs.declared.end.NativeEnd.TheVariants.{Done, BadCall, Division}
 use Rattle.aseba_natives.specs.Call.{cell, with_cell, arg_count, is_call, addresses, params_of, call_len, call_end, call_cells}

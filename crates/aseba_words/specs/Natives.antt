@@ -5,22 +5,8 @@ use Rattle.std.specs.List.{fold, range_with_len, position_or_len, list_any}
 use Rattle.std.specs.Int.{int_min, int_max, int_rem_euclid, int_div_euclid}
 use Rattle.std.specs.Ordering.{int_eq}
 use Rattle.aseba_words.specs.Cell.{wrapped, divided}
-
-pub data Native : Type 0 where
-  Copy : Native
-  Fill : Native
-  AddScalar : Native
-  Add : Native
-  Sub : Native
-  Mul : Native
-  Div : Native
-  Min : Native
-  Max : Native
-  Clamp : Native
-  Dot : Native
-  MulDiv : Native
-  Stat : Native
-  ArgBounds : Native
+use Rattle.aseba_words.specs.declared.native.Native.{Native}
+use Rattle.aseba_words.specs.declared.native.Native.TheVariants.{Copy, Fill, AddScalar, Add, Sub, Mul, Div, Min, Max, Clamp, Dot, MulDiv, Stat, ArgBounds}
 
 -- the natives in the order of their numbers
 abbrev pub natives : List Native

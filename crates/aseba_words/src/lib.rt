@@ -1,5 +1,5 @@
-//! What every other crate stands on: the arithmetic of 16-bit cells, and the small types that
-//! contracts see as plain data.
+//! What every other crate stands on: the arithmetic of 16-bit cells, the table of the native
+//! functions, and the small types that contracts see as plain data.
 #![tactic(auto)]
 
 mod arithmetic;
@@ -8,6 +8,7 @@ mod limits;
 mod list;
 mod mem;
 mod name;
+mod native;
 mod operators;
 
 pub use arithmetic::{binary, unary, wrap};
@@ -19,4 +20,5 @@ pub use limits::{
 pub use list::List;
 pub use mem::Mem;
 pub use name::Name;
+pub use native::{Native, TEMPLATE};
 pub use operators::{Binary, Unary};

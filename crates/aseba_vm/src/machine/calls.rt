@@ -1,8 +1,7 @@
 //! The instructions that reach outside: emits and native functions.
 
-ghost use Rattle.std.specs.Prelude.{◌≡◌, ◌<◌, ◌≤◌, length, IfSome};
-ghost use Rattle.std.specs.Option.{option_map};
-ghost use Rattle.aseba_words.specs.Natives.{native_params};
+ghost use Rattle.std.specs.Prelude.{◌≡◌, ◌<◌, ◌≤◌, length};
+ghost use Rattle.aseba_words.specs.Natives.{sizes};
 ghost use Rattle.aseba_natives.specs.Call.{arg_count};
 ghost use Rattle.aseba_vm.specs.Rows.{can_emit, emit_row, native_row, native_ended, calling};
 
@@ -10,6 +9,7 @@ use crate::machine::Machine;
 use crate::opcode::operand;
 use crate::tick::{NodeFault, Notice, Tick};
 use aseba_natives::{NativeEnd, native};
+use aseba_words::Native;
 
 /// The most cells that an event takes along.
 const LONGEST_EVENT: u16 = 256;
@@ -17,17 +17,13 @@ const LONGEST_EVENT: u16 = 256;
 /// The most arguments that a native takes.
 const MOST_ARGS: usize = 5;
 
-/// How many arguments a native takes, with the length of its arrays.
-fn arg_count(id: u16) -> Option<u16>
-    ensures count { result ≡ option_map arg_count (native_params id) }
-    ensures most { IfSome result (λ count. count ≤ MOST_ARGS) }
+/// How many arguments a native takes: the address of each parameter, and the length of its arrays.
+#[tactic(auto, using(crate::proofs::Arguments::arguments))]
+fn arg_count(native: Native) -> u16
+    ensures count { result ≡ arg_count (sizes native) }
+    ensures most { result ≤ MOST_ARGS }
 {
-    match id {
-        0 | 1 => Some(3),
-        2..=8 | 13 => Some(4),
-        9..=12 => Some(5),
-        _ => None,
-    }
+    native.sizes().len() as u16 + 1
 }
 
 impl Machine {
@@ -61,7 +57,8 @@ impl Machine {
         ensures { (result, self.new) ≡ native_row word self.old }
     {
         let id = operand(word);
-        let count = arg_count(id).ok_or(self.fault(NodeFault::Native))?;
+        let native = Native::numbered(id).ok_or(self.fault(NodeFault::Native))?;
+        let count = arg_count(native);
         if self.stack.len() < usize::from(count) {
             return Err(self.fault(NodeFault::Stack));
         }
