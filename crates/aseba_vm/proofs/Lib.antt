@@ -2,6 +2,7 @@ pub mod Arguments
 pub mod CodeKept
 pub mod Held
 pub mod Overwrites
+pub mod Sends
 pub mod Sizes
 pub mod Sound
 pub mod Ticks

@@ -5,6 +5,7 @@ pub mod Lists
 pub mod Loaded
 pub mod Outcome
 pub mod Rows
+pub mod Sending
 pub mod StackView
 pub mod State
 pub mod Tick

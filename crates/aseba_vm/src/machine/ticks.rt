@@ -1,5 +1,6 @@
-ghost use Rattle.std.specs.Prelude.{◌≡◌};
+ghost use Rattle.std.specs.Prelude.{◌≡◌, length};
 ghost use Rattle.aseba_vm.specs.Rows.{row};
+ghost use Rattle.aseba_vm.specs.Sending.{SendsInside};
 ghost use Rattle.aseba_vm.specs.Tick.{settled, stepped, ticked};
 
 use crate::machine::Machine;
@@ -8,8 +9,19 @@ use crate::tick::{NodeFault, Notice, Tick};
 
 impl Machine {
     /// One tick: the instruction at the counter, or nothing where the machine is idle or paused.
-    #[tactic(auto, unfolding(crate::specs::Tick::ticked))]
+    /// An event that it sends has a number below 4096 and takes along at most 256 cells that are there.
+    #[tactic(auto, using(crate::proofs::Sends::sent))]
     pub fn tick(&mut self) -> Tick
+        ensures answer { result ≡ (ticked self.old).0 }
+        ensures state { self.new ≡ (ticked self.old).1 }
+        ensures sent { SendsInside (length self.new.cells) result }
+    {
+        self.advance()
+    }
+
+    /// One tick.
+    #[tactic(auto, unfolding(crate::specs::Tick::ticked))]
+    fn advance(&mut self) -> Tick
         ensures answer { result ≡ (ticked self.old).0 }
         ensures state { self.new ≡ (ticked self.old).1 }
     {
