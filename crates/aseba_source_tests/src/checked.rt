@@ -1,13 +1,15 @@
 //! What a check tells of sources by hand: where their variables lie, and how large their plain code is.
-ghost use Rattle.std.specs.Prelude.{IfOk};
+ghost use Rattle.std.specs.Prelude.{◌<◌, length, IfOk};
 ghost use Rattle.aseba_check.specs.Accepted.{IsChecked};
 ghost use Rattle.aseba_tree.specs.Inside.{InsideProject};
+ghost use Rattle.aseba_tree.specs.Shape.{IsTree};
+ghost use Rattle.aseba_tree.specs.View.{source_view};
 
 use aseba_check::{CheckError, Checked, check, numbers};
 use aseba_describe::read_project;
 use aseba_lexer::{end_of, lex};
 use aseba_parser::parse;
-use aseba_tree::{Pos, Project};
+use aseba_tree::{Pos, Project, Source};
 use std::alloc::Global;
 use std::test::Fail;
 
@@ -23,6 +25,16 @@ fn project(alloc: Global, text: &[u8]) -> Result<Project, Fail>
     }
 }
 
+/// The tree that a text spells.
+fn tree(alloc: Global, text: &[u8], project: &Project) -> Result<Source, Fail>
+    requires { length text.now < 4294967295 }
+    ensures { IfOk result (λ source. IsTree (source_view source)) }
+{
+    let tokens = lex(alloc, text)?;
+    let source = parse(alloc, tokens.as_slice(), end_of(text), project)?;
+    Ok(source)
+}
+
 /// The answer for a source.
 fn answer(
     alloc: Global,
@@ -35,8 +47,7 @@ fn answer(
     if text.len() > 1000 {
         return Err(Fail::from("the source is too long"));
     }
-    let tokens = lex(alloc, text)?;
-    let source = parse(alloc, tokens.as_slice(), end_of(text), project)?;
+    let source = tree(alloc, text, project)?;
     Ok(check(alloc, &source, project))
 }
 
