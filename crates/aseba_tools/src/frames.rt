@@ -14,9 +14,9 @@ ghost use Rattle.aseba_tools.specs.StreamEnd.{IsEndOf, end_lines};
 ghost use Rattle.aseba_tools.specs.Unwritten.{is_write_fault};
 
 use crate::putting::{Unwritten, put_text};
-use crate::text::Text;
 use aseba_edge::Sink;
 use aseba_message::{Fed, Frame, FrameReader};
+use aseba_text::Text;
 use aseba_words::Mem;
 use std::alloc::Global;
 

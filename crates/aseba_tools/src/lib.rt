@@ -14,7 +14,6 @@ mod running;
 mod sim;
 mod status;
 mod telling;
-mod text;
 mod top;
 
 pub use aseba_compile::Refusal;

@@ -9,8 +9,8 @@ ghost use Rattle.aseba_tree.specs.Events.{event_of};
 ghost use Rattle.aseba_tree.specs.View.{project_view, placed_view};
 ghost use Rattle.aseba_tools.specs.SimText.{code_line, told_text};
 
-use crate::text::Text;
 use aseba_check::Placed;
+use aseba_text::Text;
 use aseba_tree::Project;
 use aseba_vm::Notice;
 use aseba_words::Mem;

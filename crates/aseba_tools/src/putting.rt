@@ -4,8 +4,8 @@ ghost use Rattle.std.specs.Prelude.{◌≡◌, IfErr, OnOk, OnErr, is_err};
 ghost use Rattle.aseba_edge.specs.Counts.{Counts};
 ghost use Rattle.aseba_edge.specs.Sink.{Took, TookFirst};
 
-use crate::text::Text;
 use aseba_edge::Sink;
+use aseba_text::Text;
 use aseba_words::Mem;
 
 /// Why a text wasn't written whole.
