@@ -4,6 +4,7 @@ use Rattle.std.specs.Option.{option_map}
 use Rattle.std.specs.Int.{cast_signed, w16}
 use Rattle.aseba_words.specs.Cell.{is_true}
 use Rattle.aseba_words.specs.Natives.{native_params}
+use Rattle.aseba_words.specs.declared.operators.Binary.{Binary}
 use Rattle.aseba_natives.specs.declared.end.NativeEnd.{NativeEnd}
 use Rattle.aseba_natives.specs.declared.end.NativeEnd.TheVariants.{Done, BadCall, Division}
 use Rattle.aseba_natives.specs.Call.{arg_count, call_end, call_cells}
@@ -15,16 +16,16 @@ use Rattle.aseba_vm.specs.declared.tick.Tick.{Tick}
 use Rattle.aseba_vm.specs.declared.tick.Tick.TheVariants.{Idle, Paused, Effect}
 use Rattle.aseba_vm.specs.State.{State}
 use Rattle.aseba_vm.specs.Instructions.{opcode_of, operand_of, branch_operator_of, is_when, remembering}
-use Rattle.aseba_vm.specs.Outcome.{Outcome, answering, faulting, given, going_on, targeting, index_in, after, computed}
+use Rattle.aseba_vm.specs.Outcome.{Outcome, answering, faulting, given, going_on, operating, targeting, index_in, after, computed}
 use Rattle.aseba_vm.specs.Rows.{row, arguments, native_ended, calling, enters, branched}
 use Rattle.aseba_vm.specs.Tick.{ticked, stepped, settled}
 
 -- an operator leaves code and counter
-computed-code : (code : ℕ) (s : State) → (computed code s).1.code ≡ s.code
-computed-code code s = grind arith
+computed-code : (op : Binary) (s : State) → (computed op s).1.code ≡ s.code
+computed-code op s = grind arith
 
-computed-pc : (code : ℕ) (s : State) → (computed code s).1.pc ≡ s.pc
-computed-pc code s = grind arith
+computed-pc : (op : Binary) (s : State) → (computed op s).1.pc ≡ s.pc
+computed-pc op s = grind arith
 
 -- the code of t is that of s, or a `when` at the counter of s remembers a truth
 abbrev pub Remembers : ℕ → State → State → Type 0
@@ -58,13 +59,16 @@ branched-code (Ok value) word target s t h g =
     tested-code (is_when word) (is_true value) word (if enters (is_true value) word then t.pc + 2 else target) s t refl h g
 branched-code (Err notice) word target s t h g = inl h
 
-targeted-code : (target : Option ℕ) (word : ℕ) (s : State) → Remembers word s (given target (faulting Code s) (λ n. after (computed (branch_operator_of word) s) (λ value u. answering Effect (branched (is_true value) word n u)))).1
-targeted-code None word s = inl refl
-targeted-code (Some n) word s =
-    let outcome : Outcome ℤ = computed (branch_operator_of word) s in
-    branched-code outcome.0 word n s outcome.1 (computed-code (branch_operator_of word) s) (computed-pc (branch_operator_of word) s)
+operated-code : (operator : Option Binary) (word target : ℕ) (s : State) → Remembers word s (operating operator s (λ op. after (computed op s) (λ value u. answering Effect (branched (is_true value) word target u)))).1
+operated-code None word target s = inl refl
+operated-code (Some op) word target s =
+    let outcome : Outcome ℤ = computed op s in branched-code outcome.0 word target s outcome.1 (computed-code op s) (computed-pc op s)
 
-branch-code : (by : Option ℕ) (word : ℕ) (s : State) → Remembers word s (given by (faulting Code s) (λ n. targeting (cast_signed w16 n) s (λ target. after (computed (branch_operator_of word) s) (λ value u. answering Effect (branched (is_true value) word target u))))).1
+targeted-code : (target : Option ℕ) (word : ℕ) (s : State) → Remembers word s (given target (faulting Code s) (λ n. operating (branch_operator_of word) s (λ op. after (computed op s) (λ value u. answering Effect (branched (is_true value) word n u))))).1
+targeted-code None word s = inl refl
+targeted-code (Some n) word s = operated-code (branch_operator_of word) word n s
+
+branch-code : (by : Option ℕ) (word : ℕ) (s : State) → Remembers word s (given by (faulting Code s) (λ n. targeting (cast_signed w16 n) s (λ target. operating (branch_operator_of word) s (λ op. after (computed op s) (λ value u. answering Effect (branched (is_true value) word target u)))))).1
 branch-code None word s = inl refl
 branch-code (Some n) word s = targeted-code (index_in (length s.code) (pos s.pc +ℤ cast_signed w16 n)) word s
 

@@ -2,10 +2,10 @@ pub mod Arguments
 pub mod CodeKept
 pub mod Held
 pub mod Overwrites
+pub mod ReadBack
 pub mod Sends
 pub mod Sizes
 pub mod Sound
 pub mod Ticks
 pub mod Tops
-pub mod Words
 pub mod Worked

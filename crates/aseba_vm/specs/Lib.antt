@@ -10,3 +10,4 @@ pub mod StackView
 pub mod State
 pub mod Tick
 pub mod View
+pub mod Words

@@ -2,7 +2,7 @@
 -- The checks of an instruction are written in their order, each with what goes on where it holds.
 use Rattle.std.specs.Prelude.{ℕ, ◌+◌, if◌then◌else◌, nat_lt, length, drop, slice_get, slice_set, ℤ, pos, negsuc, ◌+ℤ◌, Option, Some, None, Result, Ok, Err}
 use Rattle.aseba_words.specs.Cell.{binary_value}
-use Rattle.aseba_words.specs.Codes.{binary_coded}
+use Rattle.aseba_words.specs.declared.operators.Binary.{Binary}
 use Rattle.aseba_vm.specs.declared.tick.Notice.{Notice}
 use Rattle.aseba_vm.specs.declared.tick.Notice.TheVariants.{Bounds, NodeError, Division}
 use Rattle.aseba_vm.specs.declared.tick.NodeFault.{NodeFault}
@@ -77,10 +77,9 @@ storing address value s go_on =
 abbrev pub dividing : {A : Type 0} → Option ℤ → State → (ℤ → Outcome A) → Outcome A
 dividing value s go_on = given value (stopping (Division s.pc) s) go_on
 
--- the value of the operator with this number of two values that are popped, the right one first
-abbrev pub computed : ℕ → State → Outcome ℤ
-computed code s =
-    operating (binary_coded code) s (λ operator.
+-- the operator's value of two values that are popped, the right one first
+abbrev pub computed : Binary → State → Outcome ℤ
+computed operator s =
     popping s (λ right s.
     popping s (λ left s.
-    dividing (binary_value operator left right) s (λ value. answering value s))))
+    dividing (binary_value operator left right) s (λ value. answering value s)))

@@ -3,7 +3,6 @@ use Rattle.std.specs.Prelude.{ℕ, ◌+◌, ◌&&◌, not, Bool, if◌then◌els
 use Rattle.std.specs.Option.{option_map}
 use Rattle.std.specs.Int.{cast_signed, cast_unsigned, w16}
 use Rattle.aseba_words.specs.Cell.{unary_value, is_true}
-use Rattle.aseba_words.specs.Codes.{unary_coded}
 use Rattle.aseba_words.specs.Natives.{native_params}
 use Rattle.aseba_natives.specs.declared.end.NativeEnd.{NativeEnd}
 use Rattle.aseba_natives.specs.declared.end.NativeEnd.TheVariants.{Done, BadCall, Division}
@@ -15,7 +14,7 @@ use Rattle.aseba_vm.specs.declared.tick.NodeFault.TheVariants.{Stack, Address, W
 use Rattle.aseba_vm.specs.declared.opcode.Opcode.{Opcode}
 use Rattle.aseba_vm.specs.declared.opcode.Opcode.TheVariants.{End, SmallNumber, LargeNumber, Load, Store, LoadIndirect, StoreIndirect, UnaryOperator, BinaryOperator, Jump, Branch, Emit, NativeCall, SubCall, SubReturn, NoInstruction}
 use Rattle.aseba_vm.specs.State.{State, ended, forward, has_room, pushed}
-use Rattle.aseba_vm.specs.Instructions.{operand_of, signed_operand_of, branch_operator_of, is_when, was_true, remembering}
+use Rattle.aseba_vm.specs.Instructions.{operand_of, signed_operand_of, unary_operator_of, binary_operator_of, branch_operator_of, is_when, was_true, remembering}
 use Rattle.aseba_vm.specs.Outcome.{Outcome, answering, stopping, faulting, given, after, fetching, operating, popping, pushing, indexing, targeting, loading, storing, computed}
 
 -- the handler ends
@@ -59,12 +58,14 @@ store_indirect_row word s =
 -- the topmost value makes way for the operator's value of it
 abbrev pub unary_row : ℕ → State → Outcome Tick
 unary_row word s =
-    operating (unary_coded (operand_of word)) s (λ operator.
+    operating (unary_operator_of word) s (λ operator.
     popping s (λ value s. answering Quiet (forward 1 (pushed (unary_value operator value) s))))
 
 -- the two topmost values make way for the operator's value of them
 abbrev pub binary_row : ℕ → State → Outcome Tick
-binary_row word s = after (computed (operand_of word) s) (λ value s. answering Quiet (forward 1 (pushed value s)))
+binary_row word s =
+    operating (binary_operator_of word) s (λ operator.
+    after (computed operator s) (λ value s. answering Quiet (forward 1 (pushed value s))))
 
 -- the counter goes by the low bits as a signed number
 abbrev pub jump_row : ℕ → State → Outcome Tick
@@ -86,7 +87,8 @@ abbrev pub branch_row : ℕ → State → Outcome Tick
 branch_row word s =
     fetching 1 s (λ by.
     targeting (cast_signed w16 by) s (λ target.
-    after (computed (branch_operator_of word) s) (λ value s. answering Effect (branched (is_true value) word target s))))
+    operating (branch_operator_of word) s (λ operator.
+    after (computed operator s) (λ value s. answering Effect (branched (is_true value) word target s)))))
 
 -- a range of cells that is inside and no longer than an event's arguments
 abbrev pub can_emit : ℕ → ℕ → State → Bool

@@ -3,6 +3,7 @@
 #![tactic(auto)]
 
 mod arrival;
+pub mod instruction;
 mod lists;
 mod machine;
 mod opcode;

@@ -1,5 +1,8 @@
-ghost use Rattle.std.specs.Prelude.{◌≡◌};
-ghost use Rattle.aseba_vm.specs.Instructions.{opcode_of, operand_of, signed_operand_of, branch_operator_of, is_when, was_true, remembering};
+ghost use Rattle.std.specs.Prelude.{◌≡◌, ◌<◌};
+ghost use Rattle.aseba_vm.specs.Instructions.{opcode_of, operand_of, signed_operand_of, unary_operator_of, binary_operator_of, branch_operator_of, is_when, was_true, remembering};
+ghost use Rattle.aseba_vm.specs.Words.{opcode_number, word_of};
+
+use aseba_words::{Binary, Unary};
 
 /// What an instruction word asks for, by its high four bits, in their order.
 #[derive(Clone, Copy, Debug, PartialEq, Eq)]
@@ -46,6 +49,21 @@ impl Opcode {
             _ => Opcode::NoInstruction,
         }
     }
+
+    /// The number of the instruction, 0 to 15 in the order of the variants.
+    fn number(self) -> u16
+        ensures number { result ≡ opcode_number self }
+        ensures few { result < 16 }
+    {
+        self as u16
+    }
+
+    /// The word of the instruction with these low twelve bits; what is above them is cut off.
+    pub fn word(self, low: u16) -> u16
+        ensures { result ≡ word_of self low }
+    {
+        self.number() * 4096 + low % 4096
+    }
 }
 
 /// The low twelve bits of a word.
@@ -63,11 +81,25 @@ pub fn signed_operand(word: u16) -> i16
     if low < 2048 { low } else { low - 4096 }
 }
 
-/// The operator of a branch: its low eight bits.
-pub fn branch_operator(word: u16) -> u16
+/// The operator of a word that computes with one value, if its low twelve bits are one's number.
+pub fn unary_operator(word: u16) -> Option<Unary>
+    ensures { result ≡ unary_operator_of word }
+{
+    Unary::from_code(operand(word))
+}
+
+/// The operator of a word that computes with two values, if its low twelve bits are one's number.
+pub fn binary_operator(word: u16) -> Option<Binary>
+    ensures { result ≡ binary_operator_of word }
+{
+    Binary::from_code(operand(word))
+}
+
+/// The operator of a branch, if its low eight bits are one's number.
+pub fn branch_operator(word: u16) -> Option<Binary>
     ensures { result ≡ branch_operator_of word }
 {
-    word % 256
+    Binary::from_code(word % 256)
 }
 
 /// Whether a branch goes into its body only where its condition has become true: bit 8.

@@ -21,7 +21,8 @@ impl Machine {
     {
         let by = self.fetch(1)?;
         let target = self.target(by.cast_signed())?;
-        let value = self.compute(branch_operator(word))?;
+        let operator = branch_operator(word).ok_or(self.fault(NodeFault::Word))?;
+        let value = self.compute(operator)?;
         self.take_branch(value != 0, word, target);
         Ok(Tick::Effect)
     }
