@@ -12,6 +12,7 @@ use crate::facts::{
 use crate::table::Table;
 use aseba_tree::{Expr, Form, Pos};
 use aseba_words::List;
+use sqlite_items::Boxed;
 
 /// What is known of an expression, where names mean this.
 #[cycle(walk_expr)]
@@ -20,6 +21,14 @@ pub fn facts_of(names: &Table<Meaning>, expr: &Expr) -> Facts
     ensures fits { Fits (expr_view expr.now) }
 {
     form_facts(names, expr.first, expr.at, &expr.form)
+}
+
+/// What is known of an expression in a box, where names mean this.
+pub fn boxed_facts(names: &Table<Meaning>, expr: &Boxed<Expr>) -> Facts
+    ensures known { result ≡ told.facts_of (looked names.now) (expr_view expr.now) }
+    ensures fits { Fits (expr_view expr.now) }
+{
+    facts_of(names, expr.get())
 }
 
 #[cycle(walk_expr)]

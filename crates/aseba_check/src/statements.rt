@@ -7,7 +7,7 @@ ghost use Rattle.aseba_check.specs.Looked.{looked};
 ghost use Rattle.aseba_check.specs.Statements as told;
 
 use crate::calls::call_fault;
-use crate::expressions::facts_of;
+use crate::expressions::{boxed_facts, facts_of};
 use crate::facts::{
     Facts, Meaning, bad_size, constant_place, event_size, index_facts, not_one_cell, range_facts,
     target_facts, unknown_variable, variable_size,
@@ -146,12 +146,12 @@ fn part_of(names: &Table<Meaning>, at: Pos, meaning: Option<Meaning>, part: &Par
     match part {
         Part::All => target_facts(at, meaning),
         Part::At(index) => {
-            let index = facts_of(names, index);
+            let index = boxed_facts(names, index);
             index_facts(at, at, meaning, &index)
         }
         Part::Span(from, to) => {
-            let from = facts_of(names, from);
-            let to = facts_of(names, to);
+            let from = boxed_facts(names, from);
+            let to = boxed_facts(names, to);
             range_facts(at, at, meaning, &from, &to)
         }
     }

@@ -7,7 +7,7 @@ ghost use Rattle.aseba_parser.specs.Reads.{Answers};
 
 use crate::fault::{Fault, Parsed};
 use crate::lists::with;
-use crate::nodes::{begun_at, items, number, one, two, value_of};
+use crate::nodes::{begun_at, cell_at, cells_between, items, number, one, two, value_of};
 use crate::operators::{ANY_LEVEL, InfixToken, LEAVES, infix, prefix_at};
 use crate::tokens::{behind_sign, is_sign, name, opened, sign};
 use aseba_tree::{Expr, Part, Pos, Sign, Target, Token, TokenKind};
@@ -103,7 +103,7 @@ fn leaf<'t>(alloc: Global, depth: u8, tokens: &'t [Token]) -> Parsed<'t, Expr>
         TokenKind::Number(value) => Ok((number(token.at, *value), rest)),
         TokenKind::Name(_) => {
             let (target, behind) = target(alloc, depth, tokens)?;
-            Ok((value_of(alloc, target)?, behind))
+            Ok((value_of(target), behind))
         }
         TokenKind::Sign(found) if *found == Sign::OpenParen => {
             let inside = opened(depth, tokens)?;
@@ -224,11 +224,11 @@ fn index_end<'t>(alloc: Global, inside: u8, first: Expr, tokens: &'t [Token]) ->
         Some((token, rest)) if is_sign(Sign::Colon, &token.kind) => {
             let (last, after) = expr(alloc, inside, ANY_LEVEL, rest)?;
             let (_, behind) = sign(Sign::CloseBracket, after)?;
-            Ok((Part::Span(first, last), behind))
+            Ok((cells_between(alloc, first, last)?, behind))
         }
         _ => {
             let (_, behind) = sign(Sign::CloseBracket, tokens)?;
-            Ok((Part::At(first), behind))
+            Ok((cell_at(alloc, first)?, behind))
         }
     }
 }

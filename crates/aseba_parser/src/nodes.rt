@@ -3,7 +3,7 @@ ghost use Rattle.std.specs.Prelude.{◌≡◌, IfOk};
 ghost use Rattle.aseba_tree.specs.Spells as spells;
 ghost use Rattle.aseba_tree.specs.Step as step;
 ghost use Rattle.aseba_tree.specs.Code as code;
-ghost use Rattle.aseba_tree.specs.View.{place_view, expr_view, exprs_view, target_view};
+ghost use Rattle.aseba_tree.specs.View.{place_view, expr_view, exprs_view, part_view, target_view};
 
 use aseba_tree::{Expr, Form, Part, Pos, Target};
 use aseba_words::{Binary, List, Mem, Unary};
@@ -56,24 +56,36 @@ pub fn two(alloc: Global, op: Binary, at: Pos, left: Expr, right: Expr) -> Resul
     })
 }
 
+/// The cell at an index.
+pub fn cell_at(alloc: Global, index: Expr) -> Result<Part, Mem>
+    ensures { IfOk result (λ part. part_view part ≡ code.at (expr_view index)) }
+{
+    Ok(Part::At(Boxed::new(alloc, index)?))
+}
+
+/// The cells from an index on, up to and with that at another one.
+pub fn cells_between(alloc: Global, first: Expr, last: Expr) -> Result<Part, Mem>
+    ensures { IfOk result (λ part. part_view part ≡ code.span (expr_view first) (expr_view last)) }
+{
+    let first = Boxed::new(alloc, first)?;
+    Ok(Part::Span(first, Boxed::new(alloc, last)?))
+}
+
 /// The cells of a target as an expression.
-pub fn value_of(alloc: Global, target: Target) -> Result<Expr, Mem>
-    ensures { IfOk result (λ e. expr_view e ≡ step.target_expr (target_view target)) }
+pub fn value_of(target: Target) -> Expr
+    ensures { expr_view result ≡ step.target_expr (target_view target) }
 {
     let Target { at, name, part } = target;
     let form = match part {
         Part::All => Form::Whole(name),
-        Part::At(index) => Form::Index(name, Boxed::new(alloc, index)?),
-        Part::Span(first, last) => {
-            let first = Boxed::new(alloc, first)?;
-            Form::Range(name, first, Boxed::new(alloc, last)?)
-        }
+        Part::At(index) => Form::Index(name, index),
+        Part::Span(first, last) => Form::Range(name, first, last),
     };
-    Ok(Expr {
+    Expr {
         first: at,
         at,
         form,
-    })
+    }
 }
 
 /// The expression in parentheses of which the first is at that place.

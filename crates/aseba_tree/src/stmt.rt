@@ -21,9 +21,9 @@ pub struct Target {
 pub enum Part {
     All,
     /// `a[e]`
-    At(Expr),
+    At(Boxed<Expr>),
     /// `a[c:d]`, both ends included.
-    Span(Expr, Expr),
+    Span(Boxed<Expr>, Boxed<Expr>),
 }
 
 /// The head of a `for`. Without `step` the step is 1.
@@ -89,10 +89,10 @@ impl Part {
     {
         match self {
             Part::All => Ok(Part::All),
-            Part::At(index) => Ok(Part::At(index.copy(alloc)?)),
+            Part::At(index) => Ok(Part::At(copy_boxed(index, alloc)?)),
             Part::Span(first, last) => {
-                let first = first.copy(alloc)?;
-                Ok(Part::Span(first, last.copy(alloc)?))
+                let first = copy_boxed(first, alloc)?;
+                Ok(Part::Span(first, copy_boxed(last, alloc)?))
             }
         }
     }

@@ -188,9 +188,9 @@ fn part_aimed(names: &Table<Meaning>, meaning: Option<Meaning>, part: &Part) -> 
             elements: name_count(meaning),
             index: None,
         },
-        Part::At(index) => aimed_at(count_of(names, index)),
+        Part::At(index) => aimed_at(count_of(names, index.get())),
         Part::Span(from, to) => Aimed {
-            elements: range_count(names, from, to),
+            elements: range_count(names, from.get(), to.get()),
             index: None,
         },
     }

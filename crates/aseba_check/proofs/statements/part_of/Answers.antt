@@ -8,5 +8,5 @@ pub returns-in-Span-clause-told : goal.returns-in-Span-clause-told
 returns-in-Span-clause-told c =
     let from = told.facts_of (looked c.args.names.now) (expr_view c.in-Span.from) in
     rw c.in-Span.is
-    (c.range_facts.ensures ∙ (ap (λ f. told.range_facts c.args.at c.args.at c.args.meaning f c.facts_of-to.result) c.facts_of-from.ensures.known
-    ∙ ap (λ f. told.range_facts c.args.at c.args.at c.args.meaning from f) c.facts_of-to.ensures.known))
+    (c.range_facts.ensures ∙ (ap (λ f. told.range_facts c.args.at c.args.at c.args.meaning f c.boxed_facts-to.result) c.boxed_facts-from.ensures.known
+    ∙ ap (λ f. told.range_facts c.args.at c.args.at c.args.meaning from f) c.boxed_facts-to.ensures.known))
