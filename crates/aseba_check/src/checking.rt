@@ -21,19 +21,19 @@ use aseba_words::{List, Mem};
 use std::alloc::Global;
 
 /// Checks a source in a project that keeps to the limits. A source that breaks no rule, whose
-/// variables have room in the node and each of whose subroutines a call can reach, comes back with
-/// the places of its variables. Of another one the error tells the first rule by place that is
-/// broken; where none is, that the variables have no room; and else the first subroutine that no
-/// call can reach.
-pub fn check(alloc: Global, source: &Source, project: &Project) -> Result<Checked, CheckError>
+/// variables have room in the node and each of whose subroutines a call can reach, comes back as
+/// it was, with the places of its variables. Of another one, which is dropped, the error tells the
+/// first rule by place that is broken; where none is, that the variables have no room; and else
+/// the first subroutine that no call can reach.
+pub fn check(alloc: Global, source: Source, project: &Project) -> Result<Checked, CheckError>
     requires inside { InsideProject project.now }
-    requires is_tree { IsTree (source_view source.now) }
+    requires is_tree { IsTree (source_view source) }
     ensures checked { IfOk result (λ checked. IsChecked project.now checked) }
-    ensures same { IfOk result (λ checked. checked.source ≡ source.now) }
-    ensures refused { IfErr result (λ error. TellsRefusal (program_in project.now source.now) error) }
+    ensures same { IfOk result (λ checked. checked.source ≡ source) }
+    ensures refused { IfErr result (λ error. TellsRefusal (program_in project.now source) error) }
 {
     let mut sizes = List::new(alloc);
-    match first_fault(alloc, source, project, &mut sizes)? {
+    match first_fault(alloc, &source, project, &mut sizes)? {
         Some(fault) => Err(error_of(fault)),
         None => laid_out(alloc, source, project, sizes.as_slice()),
     }
@@ -60,18 +60,18 @@ fn first_fault(
 /// A source that breaks no rule, with the places of its variables, which have these sizes.
 fn laid_out(
     alloc: Global,
-    source: &Source,
+    source: Source,
     project: &Project,
     sizes: &[Option<u64>],
 ) -> Result<Checked, CheckError>
     requires inside { InsideProject project.now }
-    requires is_tree { IsTree (source_view source.now) }
-    requires faultless { tree.faults (program_in project.now source.now) ≡ [] }
-    requires fits { SourceFits project.now (source_view source.now) }
-    requires sizes { sizes.now ≡ source_sizes project.now (source_view source.now) }
+    requires is_tree { IsTree (source_view source) }
+    requires faultless { tree.faults (program_in project.now source) ≡ [] }
+    requires fits { SourceFits project.now (source_view source) }
+    requires sizes { sizes.now ≡ source_sizes project.now (source_view source) }
     ensures checked { IfOk result (λ checked. IsChecked project.now checked) }
-    ensures same { IfOk result (λ checked. checked.source ≡ source.now) }
-    ensures refused { IfErr result (λ error. TellsRefusal (program_in project.now source.now) error) }
+    ensures same { IfOk result (λ checked. checked.source ≡ source) }
+    ensures refused { IfErr result (λ error. TellsRefusal (program_in project.now source) error) }
 {
     let variables = project.node.variables.as_slice();
     let need = cells_of(variables, sizes);
@@ -80,18 +80,15 @@ fn laid_out(
         return Err(CheckError::VariablesFull { need, have });
     }
     let places = places_of(alloc, variables, source.vars.as_slice(), sizes)?;
-    match far_subroutine(alloc, source, project, places.as_slice())? {
+    match far_subroutine(alloc, &source, project, places.as_slice())? {
         Some(far) => Err(CheckError::SubroutineFar {
             at: far.at,
             start: far.start,
         }),
-        None => {
-            let source = source.copy(alloc)?;
-            Ok(Checked {
-                source,
-                places,
-                cells: need as u32,
-            })
-        }
+        None => Ok(Checked {
+            source,
+            places,
+            cells: need as u32,
+        }),
     }
 }

@@ -24,15 +24,15 @@ pub fn compile(alloc: Global, text: &[u8], project: &Project) -> Result<Program,
     ensures refusal { IfErr result (IsRefused (project_view project.now) text.now) }
 {
     let source = read(alloc, project, text)?;
-    compile_tree(alloc, project, &source)
+    compile_tree(alloc, project, source)
 }
 
 /// Compiles a tree.
-fn compile_tree(alloc: Global, project: &Project, source: &Source) -> Result<Program, Refusal>
+fn compile_tree(alloc: Global, project: &Project, source: Source) -> Result<Program, Refusal>
     requires inside { InsideProject project.now }
-    requires is_tree { IsTree (source_view source.now) }
-    ensures program { IfOk result (IsProgram (program_in project.now source.now)) }
-    ensures refusal { IfErr result (IsTreeRefused (program_in project.now source.now)) }
+    requires is_tree { IsTree (source_view source) }
+    ensures program { IfOk result (IsProgram (program_in project.now source)) }
+    ensures refusal { IfErr result (IsTreeRefused (program_in project.now source)) }
 {
     let checked = check(alloc, source, project)?;
     compile_checked(alloc, project, checked)

@@ -48,7 +48,7 @@ fn answer(
         return Err(Fail::from("the source is too long"));
     }
     let source = tree(alloc, text, project)?;
-    Ok(check(alloc, &source, project))
+    Ok(check(alloc, source, project))
 }
 
 /// A node whose one variable takes 34 of so many cells.

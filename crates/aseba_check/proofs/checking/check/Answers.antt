@@ -8,4 +8,4 @@ use Rattle.aseba_check.proofs.checking.check.Goals as goal
 
 pub laid_out-requires-clause-faultless : goal.laid_out-requires-clause-faultless
 laid_out-requires-clause-faultless c =
-    faultless (program_in c.args.project.now c.args.source.now) (record { told = ap (λ (o : Option Fault). option_map fault_view o) (sym c.in-None.is) ∙ c.in_ok-fault.ensures.told })
+    faultless (program_in c.args.project.now c.args.source) (record { told = ap (λ (o : Option Fault). option_map fault_view o) (sym c.in-None.is) ∙ c.in_ok-fault.ensures.told })
