@@ -18,7 +18,8 @@ use Rattle.aseba_tree.specs.Spells.{first_of}
 use Rattle.aseba_tree.specs.Faults.{fault_if, unknown, not_constant, arg_count, unknown_variable, bad_index, bad_range, constant_place, zero_divisions, not_one_cell, expr_faults, form_faults, list_faults, part_faults, target_faults, assignment_faults, bound_faults, cell_faults, head_faults, step_faults, argument_faults, global_event, argument_count, native_of, native_faults, with_params, length_faults, World, stmt_form_faults, stmts_faults}
 use Rattle.aseba_tree.specs.Elements.{elements_of, elements_of_form, target_elements, changed_elements, bumped_elements, element_of, target_index}
 use Rattle.aseba_tree.specs.Shape.{is_filled, is_filled_form, are_filled, to_list, part_exprs, form_exprs, stmts_exprs}
-use Rattle.aseba_tree.specs.Numbers.{number_words, words, depth, condition_words, condition_depth, all_words, greatest_depth, kept_words, assigned_words, assigned_depth, assigned_room, fresh_elements, fresh_of_list, lengths, template_lengths, given_lengths, argument_elements, jump_words, else_words, form_words, stmts_words, form_depth, stmts_depth, form_room, stmts_room}
+use Rattle.aseba_tree.specs.Numbers.{number_words, words, depth, condition_words, condition_depth, all_words, greatest_depth, kept_words, assigned_words, assigned_depth, assigned_room, fresh_elements, fresh_of_list, lengths, given_lengths, argument_elements, jump_words, else_words, form_words, stmts_words, form_depth, stmts_depth, form_room, stmts_room}
+use Rattle.aseba_tree.specs.Templates.{template_lengths}
 use Rattle.aseba_tree.proofs.SizeLaws.{EachKnown, nil_left, nil_right, no_fault, not_false, both_left, both_right, place_value, expr_is_good}
 use Rattle.aseba_tree.proofs.ConstantLaws.{constant_is_value}
 use Rattle.aseba_tree.proofs.ElementLaws.{laid_scope, expr_is_long}
