@@ -4,8 +4,8 @@ ghost use Rattle.aseba_check.specs.Told as told;
 
 use crate::fault::{Fault, Rule, fault_if, least};
 use crate::sizes::{
-    added_size, binary_constant, binary_size, divides, is_more_than_one, is_of_one_cell, is_zero,
-    range_size, signed, unary_constant, unary_size,
+    added_size, binary_constant, binary_size, divides, is_more_than_one, is_zero, range_size,
+    signed, unary_constant, unary_size,
 };
 use aseba_tree::Pos;
 use aseba_words::{Binary, Unary};
@@ -268,7 +268,7 @@ fn bad_operand(op: Unary, operand: &Facts) -> Option<Fault>
 fn bad_operands(at: Pos, op: Binary, left: &Facts, right: &Facts) -> Option<Fault>
     ensures { result ≡ told.bad_operands at op left.now right.now }
 {
-    if is_of_one_cell(op) {
+    if op.is_of_one_cell() {
         least(not_one_cell(left), not_one_cell(right))
     } else {
         bad_size(at, left.size, right.size)

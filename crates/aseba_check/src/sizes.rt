@@ -6,23 +6,6 @@ ghost use Rattle.aseba_check.specs.Told as told;
 
 use aseba_words::{Binary, Unary, binary, unary};
 
-/// Whether both operands of an operator have one cell.
-pub fn is_of_one_cell(op: Binary) -> bool
-    ensures { result ≡ sizes.is_of_one_cell op }
-{
-    match op {
-        Binary::Equal
-        | Binary::Differ
-        | Binary::Above
-        | Binary::AtLeast
-        | Binary::Below
-        | Binary::AtMost
-        | Binary::Or
-        | Binary::And => true,
-        _ => false,
-    }
-}
-
 pub fn divides(op: Binary) -> bool
     ensures { result ≡ faults.divides op }
 {
@@ -53,7 +36,7 @@ pub fn unary_size(op: Unary, size: Option<u64>) -> Option<u64>
 pub fn binary_size(op: Binary, left: Option<u64>, right: Option<u64>) -> Option<u64>
     ensures { result ≡ sizes.binary_size op left right }
 {
-    if is_of_one_cell(op) {
+    if op.is_of_one_cell() {
         Some(1)
     } else {
         common_size(left, right)

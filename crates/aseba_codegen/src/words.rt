@@ -1,6 +1,5 @@
 ghost use Rattle.std.specs.Prelude.{◌≡◌, ◌<◌, ◌||◌, not, false, int_lt, negsuc, pos, flat_map, [], ◌∷◌, ◌++◌, IfOk, OnOk};
 ghost use Rattle.aseba_codegen.specs.Words.{instruction, twelve_bits, sixteen_bits, number_code, large_number_code, expr_code, condition_code, store_code, differs_from_zero, native_code};
-ghost use Rattle.aseba_tree.specs.Sizes.{is_of_one_cell};
 ghost use Rattle.aseba_tree.specs.View.{core_expr_view, core_target_view, project_view};
 ghost use Rattle.aseba_tree.specs.CoreNumbers.{param_count};
 
@@ -88,23 +87,6 @@ pub fn add_expr(words: &mut List<u16>, expr: &CoreExpr) -> Result<(), Mem>
     }
 }
 
-/// Whether a branch has the operator itself: a comparison, an `and` or an `or`.
-fn compares(op: Binary) -> bool
-    ensures { result ≡ is_of_one_cell op }
-{
-    match op {
-        Binary::Equal
-        | Binary::Differ
-        | Binary::Above
-        | Binary::AtLeast
-        | Binary::Below
-        | Binary::AtMost
-        | Binary::Or
-        | Binary::And => true,
-        _ => false,
-    }
-}
-
 /// Adds a value and 0, which a branch compares. Answers the branch's operator.
 fn add_value(words: &mut List<u16>, value: &CoreExpr) -> Result<u16, Mem>
     ensures operator { IfOk result (λ op. op ≡ (differs_from_zero (core_expr_view value.now)).operator) }
@@ -123,7 +105,7 @@ pub fn add_condition(words: &mut List<u16>, test: &CoreExpr) -> Result<u16, Mem>
     ensures low { IfOk result (λ op. op < 256) }
 {
     match test {
-        CoreExpr::Two(op, left, right) if compares(*op) => {
+        CoreExpr::Two(op, left, right) if op.is_of_one_cell() => {
             add_expr(words, left.get())?;
             add_expr(words, right.get())?;
             Ok(op.code())

@@ -5,7 +5,6 @@ ghost use Rattle.aseba_tree.specs.Numbers as tree;
 ghost use Rattle.aseba_check.specs.Counted as told;
 
 use crate::facts::Meaning;
-use crate::sizes::is_of_one_cell;
 use aseba_words::Binary;
 
 /// What elements take together.
@@ -123,6 +122,6 @@ pub fn infix_count(op: Binary, left: Count, right: Count) -> Count
         cells: left.cells,
         words: operands.saturating_add(left.cells),
         depth: left.depth.max(right.depth.saturating_add(1)),
-        compares: is_of_one_cell(op),
+        compares: op.is_of_one_cell(),
     }
 }

@@ -13,7 +13,6 @@ use crate::counting::taken::{
 };
 use crate::expressions::facts_of;
 use crate::facts::Meaning;
-use crate::sizes::is_of_one_cell;
 use crate::table::Table;
 use crate::world::World;
 use aseba_tree::{Expr, ForHead, Part, Stmt, StmtForm, Target};
@@ -170,7 +169,7 @@ fn step_count(op: Binary, elements: Count) -> Count
         cells: elements.cells,
         words: words.saturating_add(elements.cells),
         depth: elements.depth.max(2),
-        compares: is_of_one_cell(op),
+        compares: op.is_of_one_cell(),
     }
 }
 
