@@ -1,4 +1,5 @@
-//! Tests of what every other crate stands on: cells and lists, the natives, the outside, and frames. It offers nothing.
+//! Tests of what every other crate stands on: cells and lists, the natives, texts, the
+//! outside, and frames. It offers nothing.
 #![tactic(auto)]
 
 #[cfg(test)]
@@ -7,5 +8,9 @@ mod frames;
 mod natives;
 #[cfg(test)]
 mod outside;
+#[cfg(test)]
+mod text_reading;
+#[cfg(test)]
+mod text_writing;
 #[cfg(test)]
 mod words;
