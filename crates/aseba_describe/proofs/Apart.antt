@@ -1,9 +1,9 @@
 -- Names in two lists.
 use Rattle.std.proofs.Common.{◌≡◌, Bool, true, false, not, ◌&&◌, ◌||◌, ℕ, List, [], ◌∷◌, ◌++◌, refl, sym, ap, ◌∙◌, append_assoc}
 use Rattle.std.proofs.lemmas.List.Folds.{list_any-append}
-use Rattle.aseba_describe.specs.Names.{is_same, stands_in, are_distinct, are_apart}
-use Rattle.aseba_describe.proofs.Options.{and_takes, and_true}
-use Rattle.aseba_describe.proofs.Numbers.{same_is, is_same_from}
+use Rattle.aseba_text.specs.Names.{is_same, stands_in, are_distinct, are_apart}
+use Rattle.aseba_text.proofs.Options.{and_takes, and_true}
+use Rattle.aseba_text.proofs.NumberLaws.{same_is, is_same_from}
 
 reordered : (a b c d e : Bool) → (not (a || b) && (c && d && e)) ≡ ((not a && c) && d && (not b && e))
 reordered true b c d e = refl

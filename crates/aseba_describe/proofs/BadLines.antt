@@ -14,11 +14,11 @@ use Rattle.aseba_describe.specs.declared.fault.ProjectError.TheVariants as error
 use Rattle.aseba_describe.specs.declared.kind.Kind.{Kind}
 use Rattle.aseba_describe.specs.declared.kind.Kind.TheVariants as kind
 use Rattle.aseba_describe.specs.Kinds.{rank_of}
-use Rattle.aseba_describe.specs.Names.{is_keyword}
+use Rattle.aseba_tree.specs.Tokens.{is_keyword}
 use Rattle.aseba_describe.specs.Spelling.{entry_text}
 use Rattle.aseba_describe.specs.Grammar.{ProjectLines, ProjectText, BeginsProject, IsBadLine, TellsLine, IsDecided}
 use Rattle.aseba_describe.specs.Reading.{with_entry, empty_draft, project_of, read_from, GivesProject}
-use Rattle.aseba_describe.proofs.Options.{when_true, bind_some}
+use Rattle.aseba_text.proofs.Options.{when_true, bind_some}
 use Rattle.aseba_describe.proofs.EntryLaws.{PlainEntry}
 use Rattle.aseba_describe.proofs.Folded.{taken, taken_front, taken_on, line_again, says_entries, Outcome, whole, short, stuck, outcome}
 use Rattle.aseba_describe.proofs.Sound.{all_told, whole_said}

@@ -17,17 +17,17 @@ use Rattle.aseba_describe.specs.declared.draft.Draft.{Draft}
 use Rattle.aseba_describe.specs.declared.kind.Kind.{Kind}
 use Rattle.aseba_describe.specs.declared.kind.Kind.TheVariants as kind
 use Rattle.aseba_describe.specs.Kinds.{rank_of, may_follow}
-use Rattle.aseba_describe.specs.Names.{are_distinct}
+use Rattle.aseba_text.specs.Names.{are_distinct}
 use Rattle.aseba_describe.specs.Plain.{IsPlain}
 use Rattle.aseba_describe.specs.Spelling.{node_entries, entries}
 use Rattle.aseba_describe.specs.Grammar.{ProjectLines}
 use Rattle.aseba_describe.specs.Reading.{is_new, with_variable, with_local, with_native, with_event, with_const, with_entry, empty_draft, project_of}
-use Rattle.aseba_describe.proofs.Options.{when_true, and_true, bind_some}
+use Rattle.aseba_text.proofs.Options.{when_true, and_true, bind_some}
 use Rattle.aseba_describe.proofs.Apart.{new_at}
 use Rattle.aseba_describe.proofs.EntryLaws.{PlainEntry}
 use Rattle.aseba_describe.proofs.Folded.{told, told_on, taken, taken_told, taken_spoken}
 use Rattle.aseba_describe.proofs.Sound.{front_names, back_names}
-use Rattle.aseba_describe.proofs.Spelled.{leb_from}
+use Rattle.aseba_text.proofs.CellLaws.{leb_from}
 
 -- what is known behind the needed lines of a project and some of the others
 abbrev pub state : Project → Kind → List Sized → List Local → List Native → List Sized → List Const → Draft

@@ -8,14 +8,18 @@ use Rattle.aseba_tree.specs.declared.description.Native.{Native}
 use Rattle.aseba_tree.specs.declared.project.Const.{Const}
 use Rattle.aseba_describe.specs.declared.entry.Entry.{Entry}
 use Rattle.aseba_describe.specs.declared.entry.Entry.TheVariants as entry
-use Rattle.aseba_describe.specs.Names.{IsName, is_same}
+use Rattle.aseba_tree.specs.Tokens.{IsName}
+use Rattle.aseba_text.specs.Names.{is_same}
 use Rattle.aseba_describe.specs.Plain.{PlainSized, PlainLocal, PlainNative, PlainConst}
 use Rattle.aseba_describe.specs.Spelling.{entry_text}
-use Rattle.aseba_describe.specs.Grammar.{is_skipped}
-use Rattle.aseba_describe.specs.Reading.{name_of, number_from, sized_of, local_of, native_of, const_of, list_entry_by, entry_by, entry_of}
-use Rattle.aseba_describe.proofs.Options.{when_takes, bind_takes}
-use Rattle.aseba_describe.proofs.Numbers.{same_is}
-use Rattle.aseba_describe.proofs.Spelled.{cut_takes, name_again, number_from_again, number_from_takes, sized_again, sized_takes, local_again, local_takes, const_again, const_takes, short_is, short_text}
+use Rattle.aseba_text.specs.Lines.{is_skipped}
+use Rattle.aseba_describe.specs.Reading.{name_of, sized_of, local_of, native_of, const_of, list_entry_by, entry_by, entry_of}
+use Rattle.aseba_text.specs.Numbers.{number_from}
+use Rattle.aseba_text.proofs.Options.{when_takes, bind_takes}
+use Rattle.aseba_text.proofs.NumberLaws.{same_is}
+use Rattle.aseba_text.proofs.FieldLaws.{cut_takes}
+use Rattle.aseba_describe.proofs.Spelled.{name_again, sized_again, sized_takes, local_again, local_takes, const_again, const_takes, short_is, short_text}
+use Rattle.aseba_text.proofs.CellLaws.{number_from_again, number_from_takes}
 use Rattle.aseba_describe.proofs.NativeLaws.{native_again, native_takes}
 
 -- what a line may say by itself

@@ -5,10 +5,11 @@ use Rattle.std.proofs.lemmas.List.Elements.{All-nil, All-cons, All-head, All-tai
 use Rattle.aseba_describe.specs.declared.entry.Entry.{Entry}
 use Rattle.aseba_describe.specs.declared.draft.Draft.{Draft}
 use Rattle.aseba_describe.specs.Spelling.{entry_text}
-use Rattle.aseba_describe.specs.Grammar.{is_skipped, spoken}
+use Rattle.aseba_text.specs.Lines.{is_skipped, spoken}
 use Rattle.aseba_describe.specs.Kinds.{rank_of, is_whole}
-use Rattle.aseba_describe.specs.Reading.{◌>>=◌, entry_of, with_entry, with_line, project_of, read_from, goes_on}
-use Rattle.aseba_describe.proofs.Options.{bind_takes, bind_some}
+use Rattle.aseba_text.specs.Options.{◌>>=◌}
+use Rattle.aseba_describe.specs.Reading.{entry_of, with_entry, with_line, project_of, read_from, goes_on}
+use Rattle.aseba_text.proofs.Options.{bind_takes, bind_some}
 use Rattle.aseba_describe.proofs.EntryLaws.{PlainEntry, speaks, entry_again, entry_takes}
 
 -- what is known behind lines, and behind what lines say

@@ -5,12 +5,9 @@ pub mod Complete
 pub mod DefaultText
 pub mod EntryLaws
 pub mod Folded
-pub mod Keywords
 pub mod Lines
 pub mod NativeLaws
 pub mod NativeLines
-pub mod Numbers
-pub mod Options
 pub mod Params
 pub mod Sections
 pub mod Sound

@@ -7,13 +7,18 @@ use Rattle.std.proofs.lemmas.List.Elements.{All-nil, All-cons, All-head, All-tai
 use Rattle.aseba_tree.specs.Inside.{InsideParam, InsideNative}
 use Rattle.aseba_tree.specs.declared.description.Param.{Param}
 use Rattle.aseba_tree.specs.declared.description.Native.{Native}
-use Rattle.aseba_describe.specs.Names.{is_name, is_text, is_same}
-use Rattle.aseba_describe.specs.Plain.{IsCell, PlainParam, PlainNative}
+use Rattle.aseba_tree.specs.Tokens.{is_name}
+use Rattle.aseba_text.specs.Names.{is_text, is_same}
+use Rattle.aseba_text.specs.Numbers.{IsCell}
+use Rattle.aseba_describe.specs.Plain.{PlainParam, PlainNative}
 use Rattle.aseba_describe.specs.Spelling.{param_text}
-use Rattle.aseba_describe.specs.Reading.{◌>>=◌, is_zero, param_of, next_of, params_of, params_with, native_of}
-use Rattle.aseba_describe.proofs.Options.{when_takes, when_true, bind_takes, bind_some}
-use Rattle.aseba_describe.proofs.Numbers.{same_is}
-use Rattle.aseba_describe.proofs.Spelled.{some_is, cut_takes, cut_again, name_has_no_blank, name_again, cell_again, cell_takes, cell_has_no_blank, cell_is_no_end, leb_from, leb_to, short_is, short_text}
+use Rattle.aseba_text.specs.Options.{◌>>=◌}
+use Rattle.aseba_describe.specs.Reading.{is_zero, param_of, next_of, params_of, params_with, native_of}
+use Rattle.aseba_text.proofs.Options.{when_takes, when_true, bind_takes, bind_some, some_is}
+use Rattle.aseba_text.proofs.NumberLaws.{same_is}
+use Rattle.aseba_text.proofs.FieldLaws.{cut_takes, cut_again}
+use Rattle.aseba_describe.proofs.Spelled.{name_has_no_blank, name_again, short_is, short_text}
+use Rattle.aseba_text.proofs.CellLaws.{cell_again, cell_takes, cell_has_no_blank, cell_is_no_end, leb_from, leb_to}
 
 -- a parameter that may stand in a line
 pub record GoodParam (p : Param) : Type 0 where

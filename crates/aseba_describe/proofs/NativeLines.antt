@@ -7,7 +7,8 @@ use Rattle.aseba_tree.specs.declared.project.Project.{Project}
 use Rattle.aseba_describe.specs.declared.entry.Entry.{Entry}
 use Rattle.aseba_describe.specs.declared.entry.Entry.TheVariants as entry
 use Rattle.aseba_describe.specs.Spelling.{entry_text, entries, node_entries}
-use Rattle.aseba_describe.specs.Grammar.{is_skipped, spoken, ProjectLines}
+use Rattle.aseba_text.specs.Lines.{is_skipped, spoken}
+use Rattle.aseba_describe.specs.Grammar.{ProjectLines}
 use Rattle.aseba_describe.specs.NativeLines.{tells_native, natives_told, IsNativeLine}
 
 abbrev pub as_count : Bool → ℕ

@@ -4,8 +4,9 @@ use Rattle.std.specs.Option.{option_map}
 use Rattle.aseba_tree.specs.declared.description.Param.{Param}
 use Rattle.aseba_describe.specs.declared.fault.LineFault.{LineFault}
 use Rattle.aseba_describe.specs.declared.fault.LineFault.TheVariants as fault
-use Rattle.aseba_describe.specs.Reading.{Fails, next_of, params_of, params_with, ◌>>=◌}
-use Rattle.aseba_describe.proofs.Options.{bind_some}
+use Rattle.aseba_describe.specs.Reading.{Fails, next_of, params_of, params_with}
+use Rattle.aseba_text.specs.Options.{◌>>=◌}
+use Rattle.aseba_text.proofs.Options.{bind_some}
 
 abbrev pub with_front : List Param → Option (List Param × List ℕ) → Option (List Param × List ℕ)
 with_front front read = option_map (λ x. (front ++ x.0, x.1)) read

@@ -17,15 +17,17 @@ use Rattle.aseba_describe.specs.declared.draft.Draft.{Draft}
 use Rattle.aseba_describe.specs.declared.kind.Kind.{Kind}
 use Rattle.aseba_describe.specs.declared.kind.Kind.TheVariants as kind
 use Rattle.aseba_describe.specs.Kinds.{rank_of, may_follow}
-use Rattle.aseba_describe.specs.Names.{IsName, are_distinct}
+use Rattle.aseba_tree.specs.Tokens.{IsName}
+use Rattle.aseba_text.specs.Names.{are_distinct}
 use Rattle.aseba_describe.specs.Plain.{PlainSized, PlainLocal, PlainNative, PlainConst, IsPlain, cell_names, event_names, native_names}
 use Rattle.aseba_describe.specs.Spelling.{node_entries, entries}
 use Rattle.aseba_describe.specs.Reading.{is_new, with_variable, with_local, with_native, with_event, with_const, with_entry, empty_draft, project_of}
-use Rattle.aseba_describe.proofs.Options.{when_takes, and_takes, bind_takes}
+use Rattle.aseba_text.proofs.Options.{when_takes, and_takes, bind_takes}
 use Rattle.aseba_describe.proofs.Apart.{distinct_more}
 use Rattle.aseba_describe.proofs.EntryLaws.{PlainEntry}
 use Rattle.aseba_describe.proofs.Folded.{told}
-use Rattle.aseba_describe.proofs.Spelled.{short_is, leb_to}
+use Rattle.aseba_describe.proofs.Spelled.{short_is}
+use Rattle.aseba_text.proofs.CellLaws.{leb_to}
 
 -- what is said, of which some begins the needed lines
 abbrev pub spread : List Entry → List Sized → List Local → List Native → List Sized → List Const → List Entry

@@ -7,20 +7,23 @@ use Rattle.std.proofs.lemmas.Bool.{eqb-true}
 use Rattle.std.proofs.lemmas.Int.{ints}
 use Rattle.std.proofs.lemmas.List.Elements.{All-head, All-tail}
 use Rattle.std.proofs.lemmas.List.Folds.{list_all-append}
-use Rattle.aseba_tree.specs.Tokens.{is_within, is_name_start, is_word_byte}
+use Rattle.aseba_words.specs.Bytes.{is_within, is_name_start, is_word_byte}
 use Rattle.aseba_tree.specs.declared.description.Param.{Param}
 use Rattle.aseba_tree.specs.declared.project.Project.{Project}
 use Rattle.aseba_describe.specs.declared.entry.Entry.{Entry}
 use Rattle.aseba_describe.specs.declared.entry.Entry.TheVariants as entry
-use Rattle.aseba_describe.specs.Names.{is_name, is_text}
-use Rattle.aseba_describe.specs.Plain.{IsCell, PlainParam, IsPlain}
+use Rattle.aseba_tree.specs.Tokens.{is_name}
+use Rattle.aseba_text.specs.Names.{is_text}
+use Rattle.aseba_text.specs.Numbers.{IsCell}
+use Rattle.aseba_describe.specs.Plain.{PlainParam, IsPlain}
 use Rattle.aseba_describe.specs.Spelling.{param_text, entry_text, entry_line, entries, project_text}
-use Rattle.aseba_describe.specs.Grammar.{spoken, ProjectText}
-use Rattle.aseba_describe.proofs.Options.{and_takes, and_true}
+use Rattle.aseba_text.specs.Lines.{spoken}
+use Rattle.aseba_describe.specs.Grammar.{ProjectText}
+use Rattle.aseba_text.proofs.Options.{and_takes, and_true}
 use Rattle.aseba_describe.proofs.EntryLaws.{PlainEntry, speaks}
 use Rattle.aseba_describe.proofs.Complete.{plain_entries}
-use Rattle.aseba_describe.proofs.Lines.{first_ends}
-use Rattle.aseba_describe.proofs.Spelled.{no_other, no_byte_from}
+use Rattle.aseba_text.proofs.LineLaws.{first_ends}
+use Rattle.aseba_text.proofs.CellLaws.{no_other, no_byte_from}
 
 abbrev pub lacks : ℕ → List ℕ → Bool
 lacks c bs = list_all (λ b. not (b == c)) bs

@@ -4,17 +4,9 @@ use Rattle.std.specs.Str.Lines.{lines}
 use Rattle.aseba_tree.specs.declared.project.Project.{Project}
 use Rattle.aseba_describe.specs.declared.fault.ProjectError.{ProjectError}
 use Rattle.aseba_describe.specs.declared.fault.ProjectError.TheVariants as error
+use Rattle.aseba_text.specs.Lines.{spoken}
 use Rattle.aseba_describe.specs.Spelling.{entry_text, entries}
 use Rattle.aseba_describe.specs.Plain.{IsPlain}
-
--- Empty lines and those that begin with `#` say nothing.
-abbrev pub is_skipped : List ℕ → Bool
-is_skipped [] = true
-is_skipped (b ∷ bs) = b == 35
-
--- the lines that say something
-abbrev pub spoken : List (List ℕ) → List (List ℕ)
-spoken rows = filter (λ row. not (is_skipped row)) rows
 
 -- Lines spell a project: those that say something are a line for each thing that the project says, in order, and the project keeps the rules.
 pub record ProjectLines (rows : List (List ℕ)) (p : Project) : Type 0 where

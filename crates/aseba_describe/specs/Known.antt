@@ -2,7 +2,7 @@
 use Rattle.std.specs.Prelude.{◌≡◌, ℕ, true, false, List, [], ◌∷◌, ◌++◌, Result, Ok, Err}
 use Rattle.aseba_describe.specs.declared.fault.LineFault.{LineFault}
 use Rattle.aseba_describe.specs.declared.fault.LineFault.TheVariants as fault
-use Rattle.aseba_describe.specs.Names.{stands_in}
+use Rattle.aseba_text.specs.Names.{stands_in}
 
 -- A name was added that was not there; it was there; or memory ran out.
 abbrev pub Added : {U : Type 0} → List (List ℕ) → List ℕ → List (List ℕ) → Result U LineFault → Type 0

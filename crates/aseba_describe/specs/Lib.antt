@@ -1,4 +1,3 @@
-pub mod Names
 pub mod NativeLines
 pub mod Spelling
 pub mod Plain

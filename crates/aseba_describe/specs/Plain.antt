@@ -1,5 +1,5 @@
 -- The rules that a project keeps if it can be written down.
-use Rattle.std.specs.Prelude.{ℕ, ℤ, pos, negsuc, ◌≤ℤ◌, List, ◌++◌, map, All, IsTrue}
+use Rattle.std.specs.Prelude.{ℕ, List, ◌++◌, map, All, IsTrue}
 use Rattle.aseba_tree.specs.Inside.{IsFrom, InsideProject}
 use Rattle.aseba_tree.specs.declared.description.Sized.{Sized}
 use Rattle.aseba_tree.specs.declared.description.Local.{Local}
@@ -8,11 +8,9 @@ use Rattle.aseba_tree.specs.declared.description.Native.{Native}
 use Rattle.aseba_tree.specs.declared.description.Description.{Description}
 use Rattle.aseba_tree.specs.declared.project.Const.{Const}
 use Rattle.aseba_tree.specs.declared.project.Project.{Project}
-use Rattle.aseba_describe.specs.Names.{are_distinct, IsName, IsText}
-
--- a signed number of 16 bits
-abbrev pub IsCell : ℤ → Type 0
-IsCell value = (negsuc 32767 ≤ℤ value) × (value ≤ℤ pos 32767)
+use Rattle.aseba_text.specs.Numbers.{IsCell}
+use Rattle.aseba_text.specs.Names.{are_distinct, IsText}
+use Rattle.aseba_tree.specs.Tokens.{IsName}
 
 abbrev pub PlainSized : Sized → Type 0
 PlainSized s = IsName s.name

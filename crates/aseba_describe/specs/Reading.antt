@@ -1,7 +1,6 @@
 -- Reading a project from its text, line by line.
 use Rattle.std.specs.Prelude.{◌≡◌, ℕ, ℤ, pos, negsuc, zero, suc, ◌+◌, Bool, false, not, ◌&&◌, ◌-◌, ◌==◌, nat_lt, nat_le, List, [], ◌∷◌, ◌++◌, length, codes, decimal, Option, Some, None, Result, Ok, Err, if◌then◌else◌}
 use Rattle.std.specs.Option.{option_map}
-use Rattle.std.specs.Str.Parse.{digits_value}
 use Rattle.aseba_tree.specs.Inside.{native_message_len}
 use Rattle.aseba_tree.specs.declared.description.Sized.{Sized}
 use Rattle.aseba_tree.specs.declared.description.Local.{Local}
@@ -9,6 +8,7 @@ use Rattle.aseba_tree.specs.declared.description.Param.{Param}
 use Rattle.aseba_tree.specs.declared.description.Native.{Native}
 use Rattle.aseba_tree.specs.declared.project.Const.{Const}
 use Rattle.aseba_tree.specs.declared.project.Project.{Project}
+use Rattle.aseba_words.specs.declared.limits.TheConstants.{MOST_CODE, LEAST_CODE, MOST_STACK, MOST_CELLS, MOST_EVENT_CELLS, MOST_VARIABLES, MOST_LOCALS, MOST_NATIVES, MOST_EVENTS, MOST_CONSTS, MOST_NATIVE_BYTES}
 use Rattle.aseba_describe.specs.declared.entry.Entry.{Entry}
 use Rattle.aseba_describe.specs.declared.entry.Entry.TheVariants as entry
 use Rattle.aseba_describe.specs.declared.kind.Kind.{Kind}
@@ -18,15 +18,14 @@ use Rattle.aseba_describe.specs.declared.fault.LineFault.TheVariants as fault
 use Rattle.aseba_describe.specs.declared.fault.ProjectError.{ProjectError}
 use Rattle.aseba_describe.specs.declared.fault.ProjectError.TheVariants as error
 use Rattle.aseba_describe.specs.declared.draft.Draft.{Draft}
-use Rattle.aseba_tree.specs.Tokens.{is_within}
-use Rattle.aseba_describe.specs.Names.{is_same, is_name, is_text, stands_in}
-use Rattle.aseba_describe.specs.Grammar.{is_skipped}
+use Rattle.aseba_words.specs.Bytes.{is_within}
+use Rattle.aseba_text.specs.Options.{◌>>=◌, when}
+use Rattle.aseba_text.specs.Fields.{cut}
+use Rattle.aseba_text.specs.Numbers.{number_from, cell_of}
+use Rattle.aseba_text.specs.Names.{is_same, is_text, stands_in}
+use Rattle.aseba_tree.specs.Tokens.{is_name}
+use Rattle.aseba_text.specs.Lines.{is_skipped}
 use Rattle.aseba_describe.specs.Kinds.{rank_of, is_whole, may_follow}
-
-infixl 10 ◌>>=◌
-abbrev pub ◌>>=◌ : {A B : Type 0} → Option A → (A → Option B) → Option B
-(Some x) >>= f = f x
-None >>= f = None
 
 -- What a function returned is what reading gives, unless memory ran out.
 abbrev pub Fails : {Y : Type 0} → LineFault → Option Y → Type 0
@@ -36,38 +35,6 @@ Fails fault.Bad read = read ≡ None
 abbrev pub Gives : {X Y : Type 0} → (X → Y) → Result X LineFault → Option Y → Type 0
 Gives view (Ok x) read = read ≡ Some (view x)
 Gives view (Err e) read = Fails e read
-
-abbrev pub when : {A : Type 0} → Bool → A → Option A
-when b x = if b then Some x else None
-
--- what stands before the first blank, and behind it
-abbrev pub cut : List ℕ → Option (List ℕ × List ℕ)
-cut [] = None
-cut (b ∷ bs) = if b == 32 then Some ([], bs) else option_map (λ c. (b ∷ c.0, c.1)) (cut bs)
-
--- a number in its one spelling
-unfoldable pub number_of : List ℕ → Option ℕ
-number_of text = when (nat_lt (digits_value 10 text) 65536 && is_same text (decimal (digits_value 10 text))) (digits_value 10 text)
-
-abbrev pub number_from : ℕ → ℕ → List ℕ → Option ℕ
-number_from least most text = do
-  n ← number_of text
-  when (is_within least most n) n
-
-abbrev pub below_zero : List ℕ → Option ℤ
-below_zero digits = do
-  n ← number_from 1 32768 digits
-  Some (negsuc (n - 1))
-
-abbrev pub from_zero : List ℕ → Option ℤ
-from_zero digits = do
-  n ← number_from 0 32767 digits
-  Some (pos n)
-
--- a signed number of 16 bits in its one spelling
-unfoldable pub cell_of : List ℕ → Option ℤ
-cell_of [] = None
-cell_of (b ∷ bs) = if b == 45 then below_zero bs else from_zero (b ∷ bs)
 
 abbrev pub name_of : List ℕ → Option (List ℕ)
 name_of text = when (is_name text) text
@@ -136,24 +103,24 @@ native_of fields = do
   name ← name_of c.0
   ps ← params_of 17 c.1
   text ← text_of ps.1
-  when (nat_le (native_message_len (record { name = name; text = text; params = ps.0 })) 512) (record { name = name; text = text; params = ps.0 })
+  when (nat_le (native_message_len (record { name = name; text = text; params = ps.0 })) MOST_NATIVE_BYTES) (record { name = name; text = text; params = ps.0 })
 
 -- what a line says, by its first word
 unfoldable pub list_entry_by : List ℕ → List ℕ → Option Entry
 list_entry_by word fields =
-    if is_same word (codes "variable") then option_map entry.Variable (sized_of 1 4096 fields)
+    if is_same word (codes "variable") then option_map entry.Variable (sized_of 1 MOST_CELLS fields)
     else if is_same word (codes "local") then option_map entry.Local (local_of fields)
     else if is_same word (codes "native") then option_map entry.Native (native_of fields)
-    else if is_same word (codes "event") then option_map entry.Event (sized_of 0 256 fields)
+    else if is_same word (codes "event") then option_map entry.Event (sized_of 0 MOST_EVENT_CELLS fields)
     else if is_same word (codes "const") then option_map entry.Const (const_of fields)
     else None
 
 unfoldable pub entry_by : List ℕ → List ℕ → Option Entry
 entry_by word fields =
     if is_same word (codes "node") then option_map entry.Node (name_of fields)
-    else if is_same word (codes "code") then option_map entry.Code (number_from 4 32767 fields)
-    else if is_same word (codes "vars") then option_map entry.Vars (number_from 1 4096 fields)
-    else if is_same word (codes "stack") then option_map entry.Stack (number_from 1 1024 fields)
+    else if is_same word (codes "code") then option_map entry.Code (number_from LEAST_CODE MOST_CODE fields)
+    else if is_same word (codes "vars") then option_map entry.Vars (number_from 1 MOST_CELLS fields)
+    else if is_same word (codes "stack") then option_map entry.Stack (number_from 1 MOST_STACK fields)
     else if is_same word (codes "id") then option_map entry.Id (number_from 1 65535 fields)
     else list_entry_by word fields
 
@@ -168,27 +135,27 @@ is_new name names = not (stands_in name names)
 -- What was read so far and one more line, where it may follow.
 unfoldable pub with_variable : Draft → Sized → Option Draft
 with_variable d v =
-    when (may_follow d.next kind.Variable && nat_lt (length d.variables) 256 && nat_le v.size d.left && is_new v.name d.cell_names)
+    when (may_follow d.next kind.Variable && nat_lt (length d.variables) MOST_VARIABLES && nat_le v.size d.left && is_new v.name d.cell_names)
     (record d { next = kind.Variable; variables = d.variables ++ v ∷ []; left = d.left - v.size; cell_names = d.cell_names ++ v.name ∷ [] })
 
 unfoldable pub with_local : Draft → Local → Option Draft
 with_local d l =
-    when (may_follow d.next kind.Local && nat_lt (length d.locals) 64 && is_new l.name d.event_names)
+    when (may_follow d.next kind.Local && nat_lt (length d.locals) MOST_LOCALS && is_new l.name d.event_names)
     (record d { next = kind.Local; locals = d.locals ++ l ∷ []; event_names = d.event_names ++ l.name ∷ [] })
 
 unfoldable pub with_native : Draft → Native → Option Draft
 with_native d n =
-    when (may_follow d.next kind.Native && nat_lt (length d.natives) 64 && is_new n.name d.native_names)
+    when (may_follow d.next kind.Native && nat_lt (length d.natives) MOST_NATIVES && is_new n.name d.native_names)
     (record d { next = kind.Native; natives = d.natives ++ n ∷ []; native_names = d.native_names ++ n.name ∷ [] })
 
 unfoldable pub with_event : Draft → Sized → Option Draft
 with_event d e =
-    when (may_follow d.next kind.Event && nat_lt (length d.events) 256 && is_new e.name d.event_names)
+    when (may_follow d.next kind.Event && nat_lt (length d.events) MOST_EVENTS && is_new e.name d.event_names)
     (record d { next = kind.Event; events = d.events ++ e ∷ []; event_names = d.event_names ++ e.name ∷ [] })
 
 unfoldable pub with_const : Draft → Const → Option Draft
 with_const d c =
-    when (may_follow d.next kind.Const && nat_lt (length d.consts) 512 && is_new c.name d.cell_names)
+    when (may_follow d.next kind.Const && nat_lt (length d.consts) MOST_CONSTS && is_new c.name d.cell_names)
     (record d { next = kind.Const; consts = d.consts ++ c ∷ []; cell_names = d.cell_names ++ c.name ∷ [] })
 
 -- a needed line, at its turn

@@ -7,7 +7,9 @@ use crate::fault::LineFault;
 use crate::kind::Kind;
 use crate::known::Known;
 use aseba_tree::{Const, Description, Local, Native, Project, Sized};
-use aseba_words::{List, Mem, Name};
+use aseba_words::{
+    List, MOST_CONSTS, MOST_EVENTS, MOST_LOCALS, MOST_NATIVES, MOST_VARIABLES, Mem, Name,
+};
 use std::alloc::Global;
 
 /// What the lines so far say.
@@ -144,7 +146,7 @@ impl Draft {
         ensures { spec.Gives (λ _. self.new) result (spec.with_variable self.old variable) }
     {
         if !self.may_follow(Kind::Variable)
-            || self.variables.as_slice().len() >= 256
+            || self.variables.as_slice().len() >= MOST_VARIABLES
             || variable.size > self.left
         {
             return Err(LineFault::Bad);
@@ -160,7 +162,7 @@ impl Draft {
     fn add_local(&mut self, alloc: Global, local: Local) -> Result<(), LineFault>
         ensures { spec.Gives (λ _. self.new) result (spec.with_local self.old local) }
     {
-        if !self.may_follow(Kind::Local) || self.locals.as_slice().len() >= 64 {
+        if !self.may_follow(Kind::Local) || self.locals.as_slice().len() >= MOST_LOCALS {
             return Err(LineFault::Bad);
         }
         self.event_names.add(local.name.copy(alloc)?)?;
@@ -173,7 +175,7 @@ impl Draft {
     fn add_native(&mut self, alloc: Global, native: Native) -> Result<(), LineFault>
         ensures { spec.Gives (λ _. self.new) result (spec.with_native self.old native) }
     {
-        if !self.may_follow(Kind::Native) || self.natives.as_slice().len() >= 64 {
+        if !self.may_follow(Kind::Native) || self.natives.as_slice().len() >= MOST_NATIVES {
             return Err(LineFault::Bad);
         }
         self.native_names.add(native.name.copy(alloc)?)?;
@@ -186,7 +188,7 @@ impl Draft {
     fn add_event(&mut self, alloc: Global, event: Sized) -> Result<(), LineFault>
         ensures { spec.Gives (λ _. self.new) result (spec.with_event self.old event) }
     {
-        if !self.may_follow(Kind::Event) || self.events.as_slice().len() >= 256 {
+        if !self.may_follow(Kind::Event) || self.events.as_slice().len() >= MOST_EVENTS {
             return Err(LineFault::Bad);
         }
         self.event_names.add(event.name.copy(alloc)?)?;
@@ -199,7 +201,7 @@ impl Draft {
     fn add_const(&mut self, alloc: Global, constant: Const) -> Result<(), LineFault>
         ensures { spec.Gives (λ _. self.new) result (spec.with_const self.old constant) }
     {
-        if !self.may_follow(Kind::Const) || self.consts.as_slice().len() >= 512 {
+        if !self.may_follow(Kind::Const) || self.consts.as_slice().len() >= MOST_CONSTS {
             return Err(LineFault::Bad);
         }
         self.cell_names.add(constant.name.copy(alloc)?)?;

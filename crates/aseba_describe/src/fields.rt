@@ -1,87 +1,47 @@
 //! The fields of a line.
-ghost use Rattle.std.specs.Prelude.{◌≡◌, ◌≤◌, ◌-◌, negsuc, nat_le, sum_by};
+ghost use Rattle.std.specs.Prelude.{◌≡◌, ◌≤◌, nat_le, sum_by};
+ghost use Rattle.aseba_text.specs.Fields as fields;
+ghost use Rattle.aseba_text.specs.Numbers as numbers;
 ghost use Rattle.aseba_tree.specs.Inside.{native_message_len, param_message_len};
 ghost use Rattle.aseba_describe.specs.Reading as spec;
 
 use crate::entry::Entry;
 use crate::fault::LineFault;
-use crate::names::{is_name, is_text};
-use aseba_tree::{Const, Local, Native, Param, Sized};
-use aseba_words::{List, Name};
-use itoa::Buffer;
+use aseba_text::is_text;
+use aseba_tree::{Const, Local, Native, Param, Sized, is_name};
+use aseba_words::{
+    LEAST_CODE, List, MOST_CELLS, MOST_CODE, MOST_EVENT_CELLS, MOST_NATIVE_BYTES, MOST_STACK, Name,
+};
 use std::alloc::Global;
-use std::str::from_utf8;
 
 /// What stands before the first blank, and behind it.
 fn cut(text: &[u8]) -> Result<(&[u8], &[u8]), LineFault>
-    ensures { spec.Gives (λ c. (c.0.now, c.1.now)) result (spec.cut text.now) }
+    ensures { spec.Gives (λ c. (c.0.now, c.1.now)) result (fields.cut text.now) }
 {
-    for (i, b) in text.iter().enumerate() {
-        if *b == b' ' {
-            return Ok((&text[..i], &text[i + 1..]));
-        }
+    match aseba_text::cut(text) {
+        Some(fields) => Ok(fields),
+        None => Err(LineFault::Bad),
     }
-    Err(LineFault::Bad)
 }
 
 /// A number of at most 16 bits without leading zeros.
-fn number(bytes: &[u8]) -> Option<u16>
-    ensures { result ≡ spec.number_of bytes.now }
-{
-    match from_utf8(bytes) {
-        Ok(text) => number_in(text),
-        Err(_) => None,
-    }
-}
-
-fn number_in(text: &str) -> Option<u16>
-    ensures { result ≡ spec.number_of text.now }
-{
-    match text.parse::<u16>() {
-        Ok(number) => {
-            if Buffer::new().format(number) == text {
-                Some(number)
-            } else {
-                None
-            }
-        }
-        Err(_) => None,
-    }
-}
-
 fn number_from(least: u16, most: u16, text: &[u8]) -> Result<u16, LineFault>
-    ensures { spec.Gives (λ n. n) result (spec.number_from least most text.now) }
+    ensures { spec.Gives (λ n. n) result (numbers.number_from least most text.now) }
 {
-    match number(text) {
-        Some(number) if least <= number && number <= most => Ok(number),
-        _ => Err(LineFault::Bad),
+    match aseba_text::number_from(u64::from(least), u64::from(most), text) {
+        Some(number) => Ok(number as u16),
+        None => Err(LineFault::Bad),
     }
 }
 
 /// A signed number without leading zeros.
-#[tactic(auto, unfolding(crate::specs::Reading::cell_of))]
 fn cell(text: &[u8]) -> Result<i16, LineFault>
-    ensures { spec.Gives (λ n. n) result (spec.cell_of text.now) }
+    ensures { spec.Gives (λ n. n) result (numbers.cell_of text.now) }
 {
-    match text {
-        [] => Err(LineFault::Bad),
-        [b'-', digits @ ..] => {
-            let number = number_from(1, 32768, digits)?;
-            Ok(negative(number))
-        }
-        _ => {
-            let number = number_from(0, 32767, text)?;
-            Ok(number as i16)
-        }
+    match aseba_text::cell(text) {
+        Some(cell) => Ok(cell),
+        None => Err(LineFault::Bad),
     }
-}
-
-fn negative(number: u16) -> i16
-    requires least { 1 ≤ number }
-    requires most { number ≤ 32768 }
-    ensures { result ≡ negsuc (number - 1) }
-{
-    (-i32::from(number)) as i16
 }
 
 fn name(alloc: Global, text: &[u8]) -> Result<Name, LineFault>
@@ -211,11 +171,11 @@ fn entry_by(alloc: Global, word: &[u8], fields: &[u8]) -> Result<Entry, LineFaul
     if word == b"node".as_slice() {
         Ok(Entry::Node(name(alloc, fields)?))
     } else if word == b"code".as_slice() {
-        Ok(Entry::Code(number_from(4, 32767, fields)?))
+        Ok(Entry::Code(number_from(LEAST_CODE, MOST_CODE, fields)?))
     } else if word == b"vars".as_slice() {
-        Ok(Entry::Vars(number_from(1, 4096, fields)?))
+        Ok(Entry::Vars(number_from(1, MOST_CELLS, fields)?))
     } else if word == b"stack".as_slice() {
-        Ok(Entry::Stack(number_from(1, 1024, fields)?))
+        Ok(Entry::Stack(number_from(1, MOST_STACK, fields)?))
     } else if word == b"id".as_slice() {
         Ok(Entry::Id(number_from(1, 65535, fields)?))
     } else {
@@ -228,13 +188,13 @@ fn list_entry_by(alloc: Global, word: &[u8], fields: &[u8]) -> Result<Entry, Lin
     ensures { spec.Gives (λ e. e) result (spec.list_entry_by word.now fields.now) }
 {
     if word == b"variable".as_slice() {
-        Ok(Entry::Variable(sized(alloc, 1, 4096, fields)?))
+        Ok(Entry::Variable(sized(alloc, 1, MOST_CELLS, fields)?))
     } else if word == b"local".as_slice() {
         Ok(Entry::Local(local(alloc, fields)?))
     } else if word == b"native".as_slice() {
         Ok(Entry::Native(native(alloc, fields)?))
     } else if word == b"event".as_slice() {
-        Ok(Entry::Event(sized(alloc, 0, 256, fields)?))
+        Ok(Entry::Event(sized(alloc, 0, MOST_EVENT_CELLS, fields)?))
     } else if word == b"const".as_slice() {
         Ok(Entry::Const(constant(alloc, fields)?))
     } else {

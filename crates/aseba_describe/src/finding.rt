@@ -3,7 +3,7 @@ ghost use Rattle.std.specs.Prelude.{◌≤◌, MatchOption};
 ghost use Rattle.std.specs.Str.Lines.{lines};
 ghost use Rattle.aseba_describe.specs.NativeLines.{IsNativeLine, natives_told};
 
-use crate::reading::first_line;
+use aseba_text::first_line;
 
 /// The line, counted from 1, that tells of the native which so many others come before; none where
 /// the text tells of no more natives than that.

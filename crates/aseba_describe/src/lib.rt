@@ -9,7 +9,6 @@ mod fields;
 mod finding;
 mod kind;
 mod known;
-mod names;
 mod plain;
 mod reading;
 mod spelling;

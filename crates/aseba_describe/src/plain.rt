@@ -2,12 +2,13 @@
 ghost use Rattle.std.specs.Prelude.{◌≡◌, ◌↔◌, ◌++◌, IsTrue, All, List, ℕ, map};
 ghost use Rattle.aseba_tree.specs.Inside.{IsFrom, InsideProject};
 ghost use Rattle.aseba_describe.specs.Grammar.{ProjectText};
-ghost use Rattle.aseba_describe.specs.Names as names;
-ghost use Rattle.aseba_describe.specs.Plain.{IsCell, PlainSized, PlainLocal, PlainParam, PlainNative, PlainConst, PlainNode, PlainParts, IsPlain, HasOwnNames, cell_names, event_names, native_names};
+ghost use Rattle.aseba_text.specs.Names as names;
+ghost use Rattle.aseba_text.specs.Numbers.{IsCell};
+ghost use Rattle.aseba_describe.specs.Plain.{PlainSized, PlainLocal, PlainParam, PlainNative, PlainConst, PlainNode, PlainParts, IsPlain, HasOwnNames, cell_names, event_names, native_names};
 ghost use Rattle.aseba_describe.specs.Spelling.{project_text};
 
-use crate::names::{is_name, is_text};
-use aseba_tree::{Const, Description, Local, Native, Param, Project, Sized};
+use aseba_text::is_text;
+use aseba_tree::{Const, Description, Local, Native, Param, Project, Sized, is_name};
 
 /// Whether a project's names, texts, sizes and counts are such that it can be written down and read
 /// again. It takes no memory: names are compared each with each, of which there are at most 768.

@@ -1,13 +1,13 @@
 //! A project from its text.
-ghost use Rattle.std.specs.Prelude.{◌≡◌, ◌<◌, ◌∷◌, length, IfOk, IfErr};
-ghost use Rattle.std.specs.Str.Lines.{lines, strip_carriage_return};
-ghost use Rattle.aseba_describe.specs.Grammar as grammar;
+ghost use Rattle.std.specs.Prelude.{IfOk, IfErr};
+ghost use Rattle.std.specs.Str.Lines.{lines};
 ghost use Rattle.aseba_describe.specs.Grammar.{ProjectText, TellsLine, IsDecided};
 ghost use Rattle.aseba_describe.specs.Reading as spec;
 
 use crate::draft::Draft;
 use crate::fault::{LineFault, ProjectError};
 use crate::fields::entry;
+use aseba_text::{first_line, is_skipped};
 use aseba_tree::Project;
 use std::alloc::Global;
 
@@ -54,42 +54,4 @@ fn take_line(alloc: Global, draft: &mut Draft, line: &[u8]) -> Result<(), LineFa
     }
     let entry = entry(alloc, line)?;
     draft.take(alloc, entry)
-}
-
-fn is_skipped(line: &[u8]) -> bool
-    ensures { result ≡ grammar.is_skipped line.now }
-{
-    match line {
-        [] => true,
-        [first, ..] => *first == b'#',
-    }
-}
-
-/// The first line of a text that isn't empty, without its end, and what stands behind it.
-pub fn first_line(text: &[u8]) -> (&[u8], &[u8])
-    requires { 0 < length text.now }
-    ensures first { lines text.now ≡ result.0.now ∷ lines result.1.now }
-    ensures shorter { length result.1.now < length text.now }
-{
-    for (i, b) in text.iter().enumerate() {
-        if *b == b'\n' {
-            return (without_return(&text[..i]), &text[i + 1..]);
-        }
-    }
-    (text, &text[text.len()..])
-}
-
-/// What stands before a line feed, without a carriage return at its end.
-fn without_return(line: &[u8]) -> &[u8]
-    ensures { result.now ≡ strip_carriage_return line.now }
-{
-    if line.is_empty() {
-        return line;
-    }
-    let last = line.len() - 1;
-    if line[last] == b'\r' {
-        &line[..last]
-    } else {
-        line
-    }
 }

@@ -1,5 +1,5 @@
 use Rattle.std.proofs.Common.{◌≡◌, map, length}
-use Rattle.aseba_describe.specs.Names as spec
+use Rattle.aseba_text.specs.Names as spec
 use Rattle.aseba_describe.proofs.plain.are_distinct.Given as goal
 
 abbrev pub invariant-loop-rest : goal.invariant-loop-rest

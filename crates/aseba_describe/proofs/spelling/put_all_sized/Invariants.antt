@@ -4,4 +4,4 @@ use Rattle.aseba_describe.specs.Spelling.{sized_line}
 use Rattle.aseba_describe.proofs.spelling.put_all_sized.Given as goal
 
 abbrev pub invariant-loop-item : goal.invariant-loop-item
-invariant-loop-item l = l.out.items ≡ l.initial.out.items ++ flat_map (sized_line l.word) (take l.item-index l.items)
+invariant-loop-item l = l.out ≡ l.initial.out ++ flat_map (sized_line l.word) (take l.item-index l.items)

@@ -4,4 +4,4 @@ use Rattle.aseba_describe.specs.Spelling.{local_line}
 use Rattle.aseba_describe.proofs.spelling.put_locals.Given as goal
 
 abbrev pub invariant-loop-local : goal.invariant-loop-local
-invariant-loop-local l = l.out.items ≡ l.initial.out.items ++ flat_map local_line (take l.local-index l.locals)
+invariant-loop-local l = l.out ≡ l.initial.out ++ flat_map local_line (take l.local-index l.locals)

@@ -4,4 +4,4 @@ use Rattle.aseba_describe.specs.Spelling.{param_text}
 use Rattle.aseba_describe.proofs.spelling.put_params.Given as goal
 
 abbrev pub invariant-loop-param : goal.invariant-loop-param
-invariant-loop-param l = l.out.items ≡ l.initial.out.items ++ flat_map param_text (take l.param-index l.params)
+invariant-loop-param l = l.out ≡ l.initial.out ++ flat_map param_text (take l.param-index l.params)

@@ -6,7 +6,7 @@ use Rattle.aseba_describe.proofs.spelling.write_project.Goals as goal
 
 pub returns-clause-written : goal.returns-clause-written
 returns-clause-written c =
-    c.from_vec.ensures ∙ written c.args.project.now _ _ _ _ _ _ _ _ _ _ _ _ c.new-out.ensures.items
+    c.into_bytes.ensures ∙ written c.args.project.now _ _ _ _ _ _ _ _ _ _ _ _ c.new-out.ensures
     c.as_slice.ensures c.as_slice-2.ensures c.as_slice-3.ensures c.as_slice-4.ensures c.as_slice-5.ensures
     c.in_ok-put_node.ensures c.in_ok-put_all_sized.ensures c.in_ok-put_locals.ensures c.in_ok-put_natives.ensures c.in_ok-put_all_sized-2.ensures c.in_ok-put_consts.ensures
 
