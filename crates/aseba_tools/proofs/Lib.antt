@@ -1,5 +1,4 @@
 pub mod Alike
-pub mod CommandLemmas
 pub mod InRun
 pub mod Loading
 pub mod Nodes
@@ -9,4 +8,5 @@ pub mod Projects
 pub mod RunParts
 pub mod Streams
 pub mod Variables
+pub mod WordsFound
 pub mod Writing

@@ -1,36 +1,112 @@
--- The command lines of `aseba`, as words of bytes.
-use Rattle.std.specs.Prelude.{◌≡◌, ℕ, ◌≤◌, nat_eq, false, List, [], ◌∷◌, codes}
+-- The tools, which words are a command line of one, and what a call does of it.
+use Rattle.std.specs.Prelude.{◌≡◌, ℕ, ◌⊎◌, ◌&&◌, Bool, false, not, List, [], ◌∷◌, Option, Some, None, IsSomeAnd, is_some, if◌then◌else◌, nat_eq, codes, option_map, option_and_then}
 use Rattle.std.specs.List.{starts_with}
-use Rattle.std.specs.Str.Parse.{IsNumeral, digits_value}
+use Rattle.std.specs.Str.{bytes_eq}
+use Rattle.clap.specs.Words.{Row, Text, first_of}
+use Rattle.aseba_tools.specs.Dumped.{Dumped}
+use Rattle.aseba_tools.specs.Simulated.{Simulated}
+use Rattle.aseba_tools.specs.Words.{Unread, Word, text, number, option, number_option, flag, found, text_at, number_at, number_or_none, is_set}
+use Rattle.aseba_tools.specs.declared.command.Command.{Command as CodeCommand}
+use Rattle.aseba_tools.specs.declared.command.Command.TheVariants as code
+use Rattle.aseba_tools.specs.declared.command.Tool.{Tool}
+use Rattle.aseba_tools.specs.declared.command.Tool.TheVariants.{Sim, Compile, Node, Dump, Rec, Play, Migrate, Massloader, Make}
+use Rattle.aseba_tools.specs.declared.status.Status.{Status}
 
--- one or more decimal digits, a number up to 100000000
-pub record IsTicks (word : List ℕ) (ticks : ℕ) : Type 0 where
-  pub numeral : IsNumeral 10 word
-  pub value : ticks ≡ digits_value 10 word
-  pub most : ticks ≤ 100000000
+-- the tool of a name
+abbrev pub tool_named : Text → Option Tool
+tool_named name =
+    if bytes_eq name (codes "sim") then Some Sim
+    else (if bytes_eq name (codes "compile") then Some Compile
+    else (if bytes_eq name (codes "node") then Some Node
+    else (if bytes_eq name (codes "dump") then Some Dump
+    else (if bytes_eq name (codes "rec") then Some Rec
+    else (if bytes_eq name (codes "play") then Some Play
+    else (if bytes_eq name (codes "migrate") then Some Migrate
+    else (if bytes_eq name (codes "massloader") then Some Massloader
+    else (if bytes_eq name (codes "make") then Some Make
+    else None))))))))
 
-abbrev pub IsNoTicks : List ℕ → Type 0
-IsNoTicks word = (ticks : ℕ) → IsTicks word ticks → ⊥
+-- the words that each tool takes behind its name
+abbrev pub words_of : Tool → List Word
+words_of Sim = text (codes "project") ∷ text (codes "source") ∷ number (codes "ticks") 0 100000000 ∷ option (codes "script") ∷ []
+words_of Compile = text (codes "project") ∷ text (codes "source") ∷ []
+words_of Node = text (codes "project") ∷ text (codes "target") ∷ number (codes "turns") 0 1000000000 ∷ []
+words_of Dump = text (codes "target") ∷ option (codes "project") ∷ flag (codes "raw") ∷ []
+words_of Rec = text (codes "target") ∷ option (codes "project") ∷ []
+words_of Play = text (codes "recording") ∷ text (codes "target") ∷ []
+words_of Migrate = text (codes "recording") ∷ option (codes "project") ∷ []
+words_of Massloader = text (codes "project") ∷ text (codes "source") ∷ text (codes "target") ∷ number_option (codes "nodes") 1 65535 ∷ []
+words_of Make = number (codes "number") 0 4294967295 ∷ number (codes "ticks") 0 100000000 ∷ []
 
--- `sim PROJECT SOURCE TICKS`
-pub record IsSim (words : List (List ℕ)) (project source : List ℕ) (ticks : ℕ) : Type 0 where
-  pub number : List ℕ
-  pub words_are : words ≡ codes "sim" ∷ project ∷ source ∷ number ∷ []
-  pub ticks_are : IsTicks number ticks
+-- a command line: its tool, with what the tool is given
+pub data Command : Type 0 where
+  sim : (project source : Text) (ticks : ℕ) (script : Option Text) → Command
+  compile : (project source : Text) → Command
+  node : (project target : Text) (turns : ℕ) → Command
+  dump : (target : Text) (project : Option Text) (raw : Bool) → Command
+  rec : (target : Text) (project : Option Text) → Command
+  play : (recording target : Text) → Command
+  migrate : (recording : Text) (project : Option Text) → Command
+  massloader : (project source target : Text) (nodes : Option ℕ) → Command
+  make : (seed ticks : ℕ) → Command
 
--- not that
-abbrev pub IsNoSim : List (List ℕ) → Type 0
-IsNoSim words = (project source : List ℕ) (ticks : ℕ) → IsSim words project source ticks → ⊥
+-- the command of a tool, by what was found in its words
+abbrev pub command_in : Tool → List Row → Command
+command_in Sim found = sim (text_at (codes "project") found) (text_at (codes "source") found) (number_at (codes "ticks") found) (first_of (codes "script") found)
+command_in Compile found = compile (text_at (codes "project") found) (text_at (codes "source") found)
+command_in Node found = node (text_at (codes "project") found) (text_at (codes "target") found) (number_at (codes "turns") found)
+command_in Dump found = dump (text_at (codes "target") found) (first_of (codes "project") found) (is_set (codes "raw") found)
+command_in Rec found = rec (text_at (codes "target") found) (first_of (codes "project") found)
+command_in Play found = play (text_at (codes "recording") found) (text_at (codes "target") found)
+command_in Migrate found = migrate (text_at (codes "recording") found) (first_of (codes "project") found)
+command_in Massloader found =
+    massloader (text_at (codes "project") found) (text_at (codes "source") found) (text_at (codes "target") found) (number_or_none (codes "nodes") found)
+command_in Make found = make (number_at (codes "number") found) (number_at (codes "ticks") found)
 
--- `dump FILE --raw`, where a word that begins with `tcp:` names no file
-pub record IsDump (words : List (List ℕ)) (file : List ℕ) : Type 0 where
-  pub words_are : words ≡ codes "dump" ∷ file ∷ codes "--raw" ∷ []
-  pub no_link : starts_with nat_eq file (codes "tcp:") ≡ false
+-- the command of a tool, by the words behind its name
+abbrev pub tool_command : Tool → List Text → Option Command
+tool_command tool words = option_map (command_in tool) (found (words_of tool) words)
 
--- not that
-abbrev pub IsNoDump : List (List ℕ) → Type 0
-IsNoDump words = (file : List ℕ) → IsDump words file → ⊥
+-- the command of words: the first names the tool, which takes the others
+abbrev pub named : List Text → Option Command
+named [] = None
+named (name ∷ words) = option_and_then (λ tool. tool_command tool words) (tool_named name)
 
--- no command line
-abbrev pub IsNoCommand : List (List ℕ) → Type 0
-IsNoCommand words = IsNoSim words × IsNoDump words
+-- a target that begins so is a link, and no file
+abbrev pub names_link : Text → Bool
+names_link target = starts_with nat_eq target (codes "tcp:")
+
+-- what the program can do so far: the test gets shorter with each tool
+abbrev pub is_built : Command → Bool
+is_built (sim project source ticks script) = not (is_some script)
+is_built (dump target project raw) = raw && (not (is_some project) && not (names_link target))
+is_built _ = false
+
+abbrev pub if_built : Command → Option Command
+if_built command = if is_built command then Some command else None
+
+-- the command of words, of those that the program can do
+abbrev pub command_of : List Text → Option Command
+command_of words = option_and_then if_built (named words)
+
+-- why a command ended with a status, and what was written, over what the files hold under each name
+abbrev pub Does : Command → (files : List ℕ → Option (Option (List ℕ))) → (before after : Option (List ℕ)) → Status → Type 0
+Does (sim project source ticks script) files before after status = Simulated project source files ticks before after status
+Does (dump target project raw) files before after status = Dumped target (files target) before after status
+Does _ files before after status = ⊥
+
+-- The words weren't read as a command, and nothing was written; or their command was done.
+abbrev pub Did : Option Command → (files : List ℕ → Option (Option (List ℕ))) → (before after : Option (List ℕ)) → Status → Type 0
+Did asked files before after status = (Unread asked status × (after ≡ before)) ⊎ IsSomeAnd asked (λ command. Does command files before after status)
+
+-- the command that a value of the code stands for
+abbrev pub command_view : CodeCommand → Command
+command_view (code.Sim project source ticks script) = sim project.now source.now ticks (option_map (λ s. s.now) script)
+command_view (code.Compile project source) = compile project.now source.now
+command_view (code.Node project target turns) = node project.now target.now turns
+command_view (code.Dump target project raw) = dump target.now (option_map (λ s. s.now) project) raw
+command_view (code.Rec target project) = rec target.now (option_map (λ s. s.now) project)
+command_view (code.Play recording target) = play recording.now target.now
+command_view (code.Migrate recording project) = migrate recording.now (option_map (λ s. s.now) project)
+command_view (code.Massloader project source target nodes) = massloader project.now source.now target.now nodes
+command_view (code.Make seed ticks) = make seed ticks

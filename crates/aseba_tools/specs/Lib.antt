@@ -12,3 +12,4 @@ pub mod Simulated
 pub mod StatusText
 pub mod StreamEnd
 pub mod Unwritten
+pub mod Words

@@ -1,63 +1,304 @@
-ghost use Rattle.std.specs.Prelude.{map, string_bytes, MatchOption};
-ghost use Rattle.aseba_tools.specs.Command.{IsSim, IsNoSim, IsTicks, IsNoTicks, IsDump, IsNoDump};
+//! The tools: their names, the words that each takes, and the commands that are read of them.
+
+ghost use Rattle.std.specs.Prelude.{◌≡◌, None, IfErr, IfOk, Some, true, map, option_map, string_bytes};
+ghost use Rattle.clap.specs.Words.{found_of, is_simple_and_free, rows_of};
+ghost use Rattle.aseba_edge.specs.Counts.{Counts};
+ghost use Rattle.aseba_tools.specs.Command.{Does, command_in, command_view, named};
+ghost use Rattle.aseba_tools.specs.Command as spec;
+ghost use Rattle.aseba_tools.specs.Outcome.{is_read_fault, is_write_fault};
+ghost use Rattle.aseba_tools.specs.Words.{Unread, app, word_view};
+
+use crate::dump::dump;
+use crate::sim::sim;
+use crate::status::Status;
+use crate::words::{Word, find, flag, number, number_or_none, text, text_or_none};
+use aseba_edge::{Files, Sink};
+use clap::ArgMatches;
+use std::alloc::Global;
+
+/// A tool, by the first word of a command line.
+#[derive(Clone, Copy, Debug)]
+enum Tool {
+    Sim,
+    Compile,
+    Node,
+    Dump,
+    Rec,
+    Play,
+    Migrate,
+    Massloader,
+    Make,
+}
 
 /// The greatest number of ticks that may be asked for.
 const MOST_TICKS: u32 = 100_000_000;
 
-/// `sim PROJECT SOURCE TICKS`: run a source on a project's node.
-#[derive(Clone, Copy, Debug)]
-pub struct SimCommand<'a> {
-    /// `default`, or the name of the project's file.
-    pub project: &'a str,
-    /// The name of the source's file.
-    pub source: &'a str,
-    pub ticks: u32,
-}
+static SIM: [Word; 4] = [
+    Word::Text("project"),
+    Word::Text("source"),
+    Word::Number("ticks", 0, MOST_TICKS),
+    Word::Option("script"),
+];
 
-/// The run that the words ask for, if they do.
-pub fn sim_command(words: &[String]) -> Option<SimCommand<'_>>
-    ensures { MatchOption result (IsNoSim (map string_bytes words.now)) (λ c. IsSim (map string_bytes words.now) c.project.now c.source.now c.ticks) }
-{
-    let [tool, project, source, ticks] = words else {
-        return None;
-    };
-    if tool.as_str() != "sim" {
-        return None;
-    }
-    let ticks = number_of_ticks(ticks.as_str())?;
-    Some(SimCommand {
-        project: project.as_str(),
-        source: source.as_str(),
-        ticks,
-    })
-}
+static COMPILE: [Word; 2] = [Word::Text("project"), Word::Text("source")];
 
-/// A number of ticks: one or more decimal digits and nothing else.
-fn number_of_ticks(word: &str) -> Option<u32>
-    ensures { MatchOption result (IsNoTicks word.now) (IsTicks word.now) }
+static NODE: [Word; 3] = [
+    Word::Text("project"),
+    Word::Text("target"),
+    Word::Number("turns", 0, 1_000_000_000),
+];
+
+static DUMP: [Word; 3] = [
+    Word::Text("target"),
+    Word::Option("project"),
+    Word::Flag("raw"),
+];
+
+static REC: [Word; 2] = [Word::Text("target"), Word::Option("project")];
+
+static PLAY: [Word; 2] = [Word::Text("recording"), Word::Text("target")];
+
+static MIGRATE: [Word; 2] = [Word::Text("recording"), Word::Option("project")];
+
+static MASSLOADER: [Word; 4] = [
+    Word::Text("project"),
+    Word::Text("source"),
+    Word::Text("target"),
+    Word::NumberOption("nodes", 1, 65_535),
+];
+
+static MAKE: [Word; 2] = [
+    Word::Number("number", 0, 4_294_967_295),
+    Word::Number("ticks", 0, MOST_TICKS),
+];
+
+/// The tool of a name.
+fn tool_named(name: &str) -> Option<Tool>
+    ensures { result ≡ spec.tool_named name.now }
 {
-    if word.starts_with('+') {
-        return None;
-    }
-    match word.parse::<u32>() {
-        Ok(ticks) if ticks <= MOST_TICKS => Some(ticks),
+    match name {
+        "sim" => Some(Tool::Sim),
+        "compile" => Some(Tool::Compile),
+        "node" => Some(Tool::Node),
+        "dump" => Some(Tool::Dump),
+        "rec" => Some(Tool::Rec),
+        "play" => Some(Tool::Play),
+        "migrate" => Some(Tool::Migrate),
+        "massloader" => Some(Tool::Massloader),
+        "make" => Some(Tool::Make),
         _ => None,
     }
 }
 
-/// The file whose frames the words ask to be told as they stand, if they do: `dump FILE --raw`.
-pub fn dump_command(words: &[String]) -> Option<&str>
-    ensures { MatchOption result (IsNoDump (map string_bytes words.now)) (λ file. IsDump (map string_bytes words.now) file.now) }
+/// The words that a tool takes behind its name.
+#[tactic(auto, unfolding(clap::proofs::OnLiterals::clap_on_literals))]
+fn words_of(tool: Tool) -> &'static [Word]
+    ensures words { map word_view result.now ≡ spec.words_of tool }
+    ensures simple { is_simple_and_free (app (map word_view result.now)) ≡ true }
 {
-    let [tool, file, raw] = words else {
-        return None;
+    match tool {
+        Tool::Sim => &SIM,
+        Tool::Compile => &COMPILE,
+        Tool::Node => &NODE,
+        Tool::Dump => &DUMP,
+        Tool::Rec => &REC,
+        Tool::Play => &PLAY,
+        Tool::Migrate => &MIGRATE,
+        Tool::Massloader => &MASSLOADER,
+        Tool::Make => &MAKE,
+    }
+}
+
+/// A command line: its tool, with what the tool is given.
+#[derive(Clone, Copy, Debug)]
+pub enum Command<'a> {
+    /// Run a source on a project's node for so many ticks, with the entries of a script.
+    Sim {
+        project: &'a str,
+        source: &'a str,
+        ticks: u32,
+        script: Option<&'a str>,
+    },
+    /// Write the words of a source.
+    Compile {
+        project: &'a str,
+        source: &'a str,
+    },
+    /// Run a project's node behind a link for so many turns.
+    Node {
+        project: &'a str,
+        target: &'a str,
+        turns: u32,
+    },
+    /// Write the frames of a file or a link.
+    Dump {
+        target: &'a str,
+        project: Option<&'a str>,
+        raw: bool,
+    },
+    /// Record the events of a link.
+    Rec {
+        target: &'a str,
+        project: Option<&'a str>,
+    },
+    /// Send the events of a recording into a link.
+    Play {
+        recording: &'a str,
+        target: &'a str,
+    },
+    /// Write an old recording in the new format.
+    Migrate {
+        recording: &'a str,
+        project: Option<&'a str>,
+    },
+    /// Load a source into so many nodes behind a link; one, where no number is given.
+    Massloader {
+        project: &'a str,
+        source: &'a str,
+        target: &'a str,
+        nodes: Option<u32>,
+    },
+    /// Run the made source and script of this number for so many ticks.
+    Make {
+        number: u32,
+        ticks: u32,
+    },
+}
+
+impl Command<'_> {
+    /// Whether the program can do it so far.
+    fn is_built(&self) -> bool
+        ensures { result ≡ spec.is_built (command_view self.now) }
+    {
+        match self {
+            Command::Sim { script, .. } => script.is_none(),
+            Command::Dump {
+                target,
+                project,
+                raw,
+            } => *raw && project.is_none() && !names_link(target),
+            _ => false,
+        }
+    }
+}
+
+/// Whether a target is a link and no file.
+fn names_link(target: &str) -> bool
+    ensures { result ≡ spec.names_link target.now }
+{
+    target.as_bytes().starts_with(b"tcp:")
+}
+
+/// Reads the words of a command line, the program's name left out. Words that are none, and words
+/// of what isn't there yet, are `Usage`; `Memory` comes where memory doesn't suffice.
+pub fn read_command<'a>(alloc: Global, words: &'a [String]) -> Result<Command<'a>, Status>
+    ensures read { IfOk result (λ command. spec.command_of (map string_bytes words.now) ≡ Some (command_view command)) }
+    ensures built { IfOk result (λ command. spec.is_built (command_view command) ≡ true) }
+    ensures unread { IfErr result (Unread (spec.command_of (map string_bytes words.now))) }
+{
+    let command = named_command(alloc, words)?;
+    if command.is_built() {
+        Ok(command)
+    } else {
+        Err(Status::Usage)
+    }
+}
+
+/// Reads the words of a tool by its name.
+fn named_command<'a>(alloc: Global, words: &'a [String]) -> Result<Command<'a>, Status>
+    ensures read { IfOk result (λ command. named (map string_bytes words.now) ≡ Some (command_view command)) }
+    ensures unread { IfErr result (Unread (named (map string_bytes words.now))) }
+{
+    let [name, rest @ ..] = words else {
+        return Err(Status::Usage);
     };
-    if tool.as_str() != "dump" || raw.as_str() != "--raw" {
-        return None;
+    match tool_named(name.as_str()) {
+        Some(tool) => tool_command(alloc, tool, rest),
+        None => Err(Status::Usage),
     }
-    // A link begins so, and no tool reads one so far.
-    if file.as_bytes().starts_with(b"tcp:") {
-        return None;
+}
+
+/// Reads the words behind a tool's name.
+fn tool_command<'a>(alloc: Global, tool: Tool, words: &'a [String]) -> Result<Command<'a>, Status>
+    ensures read { IfOk result (λ command. spec.tool_command tool (map string_bytes words.now) ≡ Some (command_view command)) }
+    ensures unread { IfErr result (Unread (spec.tool_command tool (map string_bytes words.now))) }
+{
+    let matches = find(alloc, words_of(tool), words)?;
+    Ok(matched(tool, &matches))
+}
+
+/// The command of a tool, by what was found in its words.
+fn matched<'a>(tool: Tool, matches: &ArgMatches<'a>) -> Command<'a>
+    ensures { command_view result ≡ command_in tool (rows_of (found_of matches.now)) }
+{
+    match tool {
+        Tool::Sim => Command::Sim {
+            project: text(matches, "project"),
+            source: text(matches, "source"),
+            ticks: number(matches, "ticks"),
+            script: text_or_none(matches, "script"),
+        },
+        Tool::Compile => Command::Compile {
+            project: text(matches, "project"),
+            source: text(matches, "source"),
+        },
+        Tool::Node => Command::Node {
+            project: text(matches, "project"),
+            target: text(matches, "target"),
+            turns: number(matches, "turns"),
+        },
+        Tool::Dump => Command::Dump {
+            target: text(matches, "target"),
+            project: text_or_none(matches, "project"),
+            raw: flag(matches, "raw"),
+        },
+        Tool::Rec => Command::Rec {
+            target: text(matches, "target"),
+            project: text_or_none(matches, "project"),
+        },
+        Tool::Play => Command::Play {
+            recording: text(matches, "recording"),
+            target: text(matches, "target"),
+        },
+        Tool::Migrate => Command::Migrate {
+            recording: text(matches, "recording"),
+            project: text_or_none(matches, "project"),
+        },
+        Tool::Massloader => Command::Massloader {
+            project: text(matches, "project"),
+            source: text(matches, "source"),
+            target: text(matches, "target"),
+            nodes: number_or_none(matches, "nodes"),
+        },
+        Tool::Make => Command::Make {
+            number: number(matches, "number"),
+            ticks: number(matches, "ticks"),
+        },
     }
-    Some(file.as_str())
+}
+
+/// Does a command.
+pub fn do_command<F: Files, S: Sink>(
+    alloc: Global,
+    command: Command<'_>,
+    files: &mut F,
+    out: &mut S,
+) -> Status
+    requires { spec.is_built (command_view command) ≡ true }
+    ensures not_usage { result ≡ Status.Usage → ⊥ }
+    ensures did { Does (command_view command.entry) (λ name. option_map (λ files. files name) (F.contents files.old)) (S.taken out.old) (S.taken out.new) result }
+    ensures read_fault { Counts (is_read_fault result) (F.faults files.old) (F.faults files.new) }
+    ensures write_fault { Counts (is_write_fault result) (S.faults out.old) (S.faults out.new) }
+    ensures files { F.contents files.new ≡ F.contents files.old }
+{
+    match command {
+        Command::Sim {
+            project,
+            source,
+            ticks,
+            ..
+        } => sim(alloc, project, source, ticks, files, out),
+        Command::Dump { target, .. } => dump(alloc, target, files, out),
+        _ => unreachable!(),
+    }
 }

@@ -15,6 +15,7 @@ mod sim;
 mod status;
 mod telling;
 mod top;
+mod words;
 
 pub use aseba_compile::Refusal;
 pub use status::Status;

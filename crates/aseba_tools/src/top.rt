@@ -1,14 +1,10 @@
-ghost use Rattle.std.specs.Prelude.{◌≡◌, ◌↔◌, false, ℕ, List, None, map, option_map, string_bytes};
+ghost use Rattle.std.specs.Prelude.{◌≡◌, false, None, map, option_map, string_bytes};
 ghost use Rattle.aseba_edge.specs.Counts.{Counts};
-ghost use Rattle.aseba_tools.specs.Command.{IsSim, IsDump, IsNoCommand};
-ghost use Rattle.aseba_tools.specs.Dumped.{Dumped};
-ghost use Rattle.aseba_tools.specs.Simulated.{Simulated};
+ghost use Rattle.aseba_tools.specs.Command.{Did, command_of};
 ghost use Rattle.aseba_tools.specs.Outcome.{MessagePut, is_read_fault, is_write_fault};
 ghost use Rattle.aseba_tools.specs.StatusText.{message_of};
 
-use crate::command::{dump_command, sim_command};
-use crate::dump::dump;
-use crate::sim::sim;
+use crate::command::{do_command, read_command};
 use crate::status::Status;
 use crate::telling::tell;
 use aseba_edge::{Clock, Dialer, Files, Sink};
@@ -28,7 +24,8 @@ pub struct Ran<I, Q, O> {
 
 /// Does what the words of a command line ask for, and tells on `err` how it ended. The words leave
 /// out the program's name. There are two tools so far, `sim PROJECT SOURCE TICKS` and
-/// `dump FILE --raw`, which ask neither the dialer nor the clock for anything.
+/// `dump FILE --raw`, which ask neither the dialer nor the clock for anything. Words that are no
+/// command of these two are `Usage`; `Memory` may come wherever memory is taken, also to read words.
 pub fn run<F: Files, D: Dialer, S: Sink, E: Sink, C: Clock>(
     alloc: Global,
     words: &[String],
@@ -40,11 +37,8 @@ pub fn run<F: Files, D: Dialer, S: Sink, E: Sink, C: Clock>(
 ) -> Ran<D::In, D::Poll, D::Out>
     requires clock_is_fresh { C.has_answered clock.old ≡ false }
     requires clock_is_low { C.floor clock.old ≡ 0 }
-    ensures usage { (result.status ≡ Status.Usage) ↔ IsNoCommand (map string_bytes words.now) }
-    ensures simulated { (project source : List ℕ) (ticks : ℕ) → IsSim (map string_bytes words.now) project source ticks →
-        Simulated project source (λ name. option_map (λ files. files name) (F.contents files.old)) ticks (S.taken out.old) (S.taken out.new) result.status }
-    ensures dumped { (file : List ℕ) → IsDump (map string_bytes words.now) file →
-        Dumped file (option_map (λ files. files file) (F.contents files.old)) (S.taken out.old) (S.taken out.new) result.status }
+    ensures usage { result.status ≡ Status.Usage → command_of (map string_bytes words.now) ≡ None }
+    ensures did { Did (command_of (map string_bytes words.now)) (λ name. option_map (λ files. files name) (F.contents files.old)) (S.taken out.old) (S.taken out.new) result.status }
     ensures nothing_for_usage { result.status ≡ Status.Usage → S.taken out.new ≡ S.taken out.old }
     ensures read_fault { Counts (is_read_fault result.status) (F.faults files.old) (F.faults files.new) }
     ensures write_fault { Counts (is_write_fault result.status) (S.faults out.old) (S.faults out.new) }
@@ -68,22 +62,15 @@ pub fn run<F: Files, D: Dialer, S: Sink, E: Sink, C: Clock>(
 
 /// Does what the words ask for.
 fn do_tool<F: Files, S: Sink>(alloc: Global, words: &[String], files: &mut F, out: &mut S) -> Status
-    ensures usage { (result ≡ Status.Usage) ↔ IsNoCommand (map string_bytes words.now) }
-    ensures simulated { (project source : List ℕ) (ticks : ℕ) → IsSim (map string_bytes words.now) project source ticks →
-        Simulated project source (λ name. option_map (λ files. files name) (F.contents files.old)) ticks (S.taken out.old) (S.taken out.new) result }
-    ensures dumped { (file : List ℕ) → IsDump (map string_bytes words.now) file →
-        Dumped file (option_map (λ files. files file) (F.contents files.old)) (S.taken out.old) (S.taken out.new) result }
+    ensures usage { result ≡ Status.Usage → command_of (map string_bytes words.now) ≡ None }
+    ensures did { Did (command_of (map string_bytes words.now)) (λ name. option_map (λ files. files name) (F.contents files.old)) (S.taken out.old) (S.taken out.new) result }
     ensures nothing_for_usage { result ≡ Status.Usage → S.taken out.new ≡ S.taken out.old }
     ensures read_fault { Counts (is_read_fault result) (F.faults files.old) (F.faults files.new) }
     ensures write_fault { Counts (is_write_fault result) (S.faults out.old) (S.faults out.new) }
     ensures files { F.contents files.new ≡ F.contents files.old }
 {
-    if let Some(command) = sim_command(words) {
-        let (project, source) = (command.project, command.source);
-        return sim(alloc, project, source, command.ticks, files, out);
-    }
-    match dump_command(words) {
-        Some(file) => dump(alloc, file, files, out),
-        None => Status::Usage,
+    match read_command(alloc, words) {
+        Ok(command) => do_command(alloc, command, files, out),
+        Err(unread) => unread,
     }
 }
