@@ -1,5 +1,5 @@
 -- The numbers of the statuses, and what is told of them.
-use Rattle.std.specs.Prelude.{ℕ, ℤ, List, [], ◌++◌, codes, decimal}
+use Rattle.std.specs.Prelude.{ℕ, ◌≤◌, ℤ, List, [], ◌++◌, length, codes, decimal}
 use Rattle.std.specs.Fmt.{signed_decimal}
 use Rattle.aseba_check.specs.declared.error.CheckError.{CheckError}
 use Rattle.aseba_check.specs.declared.error.CheckError.TheVariants as check
@@ -8,26 +8,12 @@ use Rattle.aseba_lexer.specs.declared.error.LexError.{LexError}
 use Rattle.aseba_lexer.specs.declared.error.LexError.TheVariants as lex
 use Rattle.aseba_parser.specs.declared.error.SyntaxError.{SyntaxError}
 use Rattle.aseba_parser.specs.declared.error.SyntaxError.TheVariants as syntax
-use Rattle.aseba_compile.specs.declared.refusal.Refusal.{Refusal}
+use Rattle.aseba_compile.specs.declared.refusal.Refusal.{Refusal as Reason}
 use Rattle.aseba_compile.specs.declared.refusal.Refusal.TheVariants.{Lex, Syntax, Check, NotBuilt, CodeFull, StackFull, Mem}
 use Rattle.aseba_tools.specs.declared.status.Status.{Status}
 use Rattle.aseba_tools.specs.declared.status.Status.TheVariants.{Done, Usage, Absent, ReadFault, Refused, BadProject, BadScript, WriteFault, Memory, TooBig, BadFrame, NoNode, DialFault, LongStream}
-
-abbrev pub number_of : Status → ℕ
-number_of Done = 0
-number_of Usage = 1
-number_of (Absent file) = 2
-number_of ReadFault = 3
-number_of (Refused refusal) = 4
-number_of (BadProject line) = 5
-number_of (BadScript line) = 6
-number_of WriteFault = 7
-number_of Memory = 8
-number_of (TooBig file) = 9
-number_of (BadFrame place) = 10
-number_of (NoNode name) = 11
-number_of DialFault = 12
-number_of LongStream = 13
+use Rattle.aseba_tools.specs.declared.status.StatusLine.{StatusLine}
+use Rattle.aseba_tools.specs.declared.status.StatusLine.TheVariants.{Nothing, Words, Name, Number, Refusal}
 
 -- a place: its line and its column
 abbrev pub place_text : Pos → List ℕ
@@ -90,7 +76,7 @@ check_text (check.SubroutineFar at start) = far_text at start
 check_text check.Mem = codes "Mem"
 
 -- the name of a refusal with its place and its numbers
-abbrev pub refusal_text : Refusal → List ℕ
+abbrev pub refusal_text : Reason → List ℕ
 refusal_text (Lex error) = lex_text error
 refusal_text (Syntax error) = syntax_text error
 refusal_text (Check error) = check_text error
@@ -99,19 +85,37 @@ refusal_text (CodeFull need have) = need_text (codes "CodeFull") need have
 refusal_text (StackFull need have) = need_text (codes "StackFull") need have
 refusal_text Mem = codes "Mem"
 
--- what the line about a status says: nothing where all was done
+-- the status by which the program ends, and the line that is told of it: nothing where all was done
+abbrev pub row_of : Status → ℕ × List ℕ
+row_of Done = (0, [])
+row_of Usage = (1, codes "aseba: bad command line\n")
+row_of (Absent file) = (2, codes "aseba: no file " ++ file ++ codes "\n")
+row_of ReadFault = (3, codes "aseba: read failed\n")
+row_of (Refused refusal) = (4, codes "aseba: refused " ++ refusal_text refusal ++ codes "\n")
+row_of (BadProject line) = (5, codes "aseba: project line " ++ decimal line ++ codes "\n")
+row_of (BadScript line) = (6, codes "aseba: script line " ++ decimal line ++ codes "\n")
+row_of WriteFault = (7, codes "aseba: write failed\n")
+row_of Memory = (8, codes "aseba: out of memory\n")
+row_of (TooBig file) = (9, codes "aseba: too big " ++ file ++ codes "\n")
+row_of (BadFrame place) = (10, codes "aseba: bad frame at " ++ decimal place ++ codes "\n")
+row_of (NoNode name) = (11, codes "aseba: no node " ++ name ++ codes "\n")
+row_of DialFault = (12, codes "aseba: no connection\n")
+row_of LongStream = (13, codes "aseba: stream too long\n")
+
+abbrev pub number_of : Status → ℕ
+number_of status = (row_of status).0
+
 abbrev pub message_of : Status → List ℕ
-message_of Done = []
-message_of Usage = codes "aseba: bad command line\n"
-message_of (Absent file) = codes "aseba: no file " ++ file ++ codes "\n"
-message_of ReadFault = codes "aseba: read failed\n"
-message_of (Refused refusal) = codes "aseba: refused " ++ refusal_text refusal ++ codes "\n"
-message_of (BadProject line) = codes "aseba: project line " ++ decimal line ++ codes "\n"
-message_of (BadScript line) = codes "aseba: script line " ++ decimal line ++ codes "\n"
-message_of WriteFault = codes "aseba: write failed\n"
-message_of Memory = codes "aseba: out of memory\n"
-message_of (TooBig file) = codes "aseba: too big " ++ file ++ codes "\n"
-message_of (BadFrame place) = codes "aseba: bad frame at " ++ decimal place ++ codes "\n"
-message_of (NoNode name) = codes "aseba: no node " ++ name ++ codes "\n"
-message_of DialFault = codes "aseba: no connection\n"
-message_of LongStream = codes "aseba: stream too long\n"
+message_of status = (row_of status).1
+
+-- the text of a line as the code has it, and that the words in front of its number are few
+abbrev pub line_text : StatusLine → List ℕ
+line_text Nothing = []
+line_text (Words words) = words.now
+line_text (Name head name) = head.now ++ name.now ++ codes "\n"
+line_text (Number head number) = head.now ++ decimal number ++ codes "\n"
+line_text (Refusal refusal) = codes "aseba: refused " ++ refusal_text refusal.now ++ codes "\n"
+
+abbrev pub HasShortHead : StatusLine → Type 0
+HasShortHead (Number head number) = length head.now ≤ 32
+HasShortHead _ = Unit {0}

@@ -1,5 +1,5 @@
 ghost use Rattle.std.specs.Prelude.{◌≡◌};
-ghost use Rattle.aseba_tools.specs.StatusText.{number_of};
+ghost use Rattle.aseba_tools.specs.StatusText.{HasShortHead, line_text, message_of, number_of};
 
 use crate::putting::Unwritten;
 use aseba_compile::Refusal;
@@ -62,26 +62,73 @@ impl From<Unwritten> for Status {
     }
 }
 
+/// What the program ends with at a status: its number, and the line that is told.
+#[derive(Clone, Copy, Debug)]
+pub struct Row<'a> {
+    pub number: u8,
+    pub line: StatusLine<'a>,
+}
+
+/// The line of a status.
+#[derive(Clone, Copy, Debug)]
+pub enum StatusLine<'a> {
+    /// There is none.
+    Nothing,
+    /// These words, with the line's end.
+    Words(&'static str),
+    /// A name behind some words.
+    Name(&'static str, &'a Name),
+    /// A number behind some words, at most 32 bytes of them.
+    Number(&'static str, u64),
+    /// Why a source isn't compiled.
+    Refusal(&'a Refusal),
+}
+
 impl Status {
+    /// The table of the statuses: of each its number and its line.
+    pub fn row(&self) -> Row<'_>
+        ensures number { result.number ≡ number_of self.now }
+        ensures line { line_text result.line ≡ message_of self.now }
+        ensures short { HasShortHead result.line }
+    {
+        match self {
+            Status::Done => Row::new(0, StatusLine::Nothing),
+            Status::Usage => Row::new(1, StatusLine::Words("aseba: bad command line\n")),
+            Status::Absent { file } => Row::new(2, StatusLine::Name("aseba: no file ", file)),
+            Status::ReadFault => Row::new(3, StatusLine::Words("aseba: read failed\n")),
+            Status::Refused(refusal) => Row::new(4, StatusLine::Refusal(refusal)),
+            Status::BadProject { line } => {
+                Row::new(5, StatusLine::Number("aseba: project line ", *line))
+            }
+            Status::BadScript { line } => Row::new(
+                6,
+                StatusLine::Number("aseba: script line ", *line),
+            ),
+            Status::WriteFault => Row::new(7, StatusLine::Words("aseba: write failed\n")),
+            Status::Memory => Row::new(8, StatusLine::Words("aseba: out of memory\n")),
+            Status::TooBig { file } => Row::new(9, StatusLine::Name("aseba: too big ", file)),
+            Status::BadFrame { place } => {
+                Row::new(10, StatusLine::Number("aseba: bad frame at ", *place))
+            }
+            Status::NoNode { name } => Row::new(11, StatusLine::Name("aseba: no node ", name)),
+            Status::DialFault => Row::new(12, StatusLine::Words("aseba: no connection\n")),
+            Status::LongStream => Row::new(13, StatusLine::Words("aseba: stream too long\n")),
+        }
+    }
+
     /// The exit status of the program.
     pub fn number(&self) -> u8
         ensures { result ≡ number_of self.now }
     {
-        match self {
-            Status::Done => 0,
-            Status::Usage => 1,
-            Status::Absent { .. } => 2,
-            Status::ReadFault => 3,
-            Status::Refused(_) => 4,
-            Status::BadProject { .. } => 5,
-            Status::BadScript { .. } => 6,
-            Status::WriteFault => 7,
-            Status::Memory => 8,
-            Status::TooBig { .. } => 9,
-            Status::BadFrame { .. } => 10,
-            Status::NoNode { .. } => 11,
-            Status::DialFault => 12,
-            Status::LongStream => 13,
-        }
+        self.row().number
+    }
+}
+
+impl<'a> Row<'a> {
+    fn new(number: u8, line: StatusLine<'a>) -> Row<'a>
+        ensures number { result.number ≡ number }
+        ensures line { result.line ≡ line.entry }
+    {
+        Row { number, line }
     }
 }

@@ -8,9 +8,9 @@ ghost use Rattle.std.specs.Prelude.{◌≡◌, [], ◌++◌, codes, is_err, OnOk
 ghost use Rattle.aseba_edge.specs.Counts.{Counts};
 ghost use Rattle.aseba_edge.specs.Sink.{Took, TookFirst};
 ghost use Rattle.aseba_tools.specs.Outcome.{MessagePut};
-ghost use Rattle.aseba_tools.specs.StatusText.{message_of};
+ghost use Rattle.aseba_tools.specs.StatusText.{HasShortHead, line_text, message_of};
 
-use crate::status::Status;
+use crate::status::{Status, StatusLine};
 use aseba_edge::{PutFault, Sink};
 use line::{Line, number_line};
 use refused::refusal_line;
@@ -29,30 +29,22 @@ pub fn tell<E: Sink>(status: &Status, err: &mut E)
     ensures { MessagePut (E.taken err.old) (message_of status.now) (E.taken err.new) (E.faults err.old) (E.faults err.new) }
 {
     let mut line = Line::new();
-    let message = message_about(status, &mut line);
+    let message = message_of_line(status.row().line, &mut line);
     let _ = put_pieces(err, message.head, message.name, message.end);
 }
 
-/// The message about a status; one with numbers is gathered in `text`.
-fn message_about<'a>(status: &'a Status, text: &'a mut Line) -> Message<'a>
-    requires { text.old.bytes ≡ [] }
-    ensures { result.head.now ++ result.name.now ++ result.end.now ≡ message_of status.now }
+/// The message that a line makes; one with numbers is gathered in `text`.
+fn message_of_line<'a>(line: StatusLine<'a>, text: &'a mut Line) -> Message<'a>
+    requires empty { text.old.bytes ≡ [] }
+    requires short { HasShortHead line }
+    ensures { result.head.now ++ result.name.now ++ result.end.now ≡ line_text line.entry }
 {
-    match status {
-        Status::Done => whole(b""),
-        Status::Usage => whole(b"aseba: bad command line\n"),
-        Status::Absent { file } => named(b"aseba: no file ", file.as_bytes()),
-        Status::ReadFault => whole(b"aseba: read failed\n"),
-        Status::Refused(refusal) => whole(refusal_line(text, refusal)),
-        Status::BadProject { line } => whole(number_line(text, "aseba: project line ", *line)),
-        Status::BadScript { line } => whole(number_line(text, "aseba: script line ", *line)),
-        Status::WriteFault => whole(b"aseba: write failed\n"),
-        Status::Memory => whole(b"aseba: out of memory\n"),
-        Status::TooBig { file } => named(b"aseba: too big ", file.as_bytes()),
-        Status::BadFrame { place } => whole(number_line(text, "aseba: bad frame at ", *place)),
-        Status::NoNode { name } => named(b"aseba: no node ", name.as_bytes()),
-        Status::DialFault => whole(b"aseba: no connection\n"),
-        Status::LongStream => whole(b"aseba: stream too long\n"),
+    match line {
+        StatusLine::Nothing => whole(b""),
+        StatusLine::Words(words) => whole(words.as_bytes()),
+        StatusLine::Name(head, name) => named(head.as_bytes(), name.as_bytes()),
+        StatusLine::Number(head, number) => whole(number_line(text, head, number)),
+        StatusLine::Refusal(refusal) => whole(refusal_line(text, refusal)),
     }
 }
 
