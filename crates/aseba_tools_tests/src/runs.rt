@@ -258,37 +258,6 @@ fn variables_fill_the_node(rt: HostRuntime) -> Result<(), Fail> {
 }
 
 #[test]
-fn words_that_are_no_command_line(rt: HostRuntime) -> Result<(), Fail> {
-    for line in [
-        "sim|default|x.aseba|",
-        "sim|default|x.aseba|-1",
-        "sim|default|x.aseba|+1",
-        "sim|default|x.aseba|1 ",
-        "sim|default|x.aseba|100000001",
-        "sim|default|x.aseba|99999999999999999999",
-        "sim|default|x.aseba|1|1",
-        "dump|x.aseba",
-        "dump|--raw|x.aseba",
-        "dump|x.aseba|--raw|--raw",
-        "dump|tcp:localhost:33333|--raw",
-        "sim|default",
-        "",
-        "|",
-    ] {
-        let ran = ran_with(rt.alloc(), line, b"", 0, 1000)?;
-        assert_eq!(rt; ran.number, 1);
-        assert_eq!(rt; ran.out.bytes(), b"".as_slice());
-        assert_eq!(rt; ran.err.bytes(), b"aseba: bad command line\n".as_slice());
-    }
-    let ran = ran_with(rt.alloc(), "sim|default|x.aseba|0007", b"", 0, 1000)?;
-    assert_eq!(rt;
-        ran.out.bytes(),
-        b"code 0003 ffff 0003 0000\nend 7 1\n".as_slice()
-    );
-    Ok(())
-}
-
-#[test]
 fn files_that_are_not_read(rt: HostRuntime) -> Result<(), Fail> {
     let ran = ran_with(rt.alloc(), "sim|default|missing|5", b"", 0, 1000)?;
     assert_eq!(rt; ran.number, 2);

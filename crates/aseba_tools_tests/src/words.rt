@@ -1,0 +1,195 @@
+//! Which words are a command line, over an empty source and a file of frames in memory.
+use aseba_edge::{MemoryClock, MemoryFile, MemoryFiles, MemorySink, NoDialer};
+use aseba_tools::run;
+use aseba_words::{List, Mem, Name};
+use std::alloc::Global;
+use std::process::Abort;
+use std::test::Fail;
+
+/// The frame of an event, in a file `f`.
+const FRAME: &[u8] = &[4, 0, 1, 0, 1, 0, 3, 0, 255, 255];
+
+/// How a call ended: its status, and what it wrote to each output.
+#[derive(Drop)]
+struct Ended {
+    number: u8,
+    out: MemorySink,
+    err: MemorySink,
+}
+
+/// Runs the words of a line, which `|` parts; an empty line has none.
+fn ran(alloc: Global, line: &str) -> Result<Ended, Mem> {
+    let mut words = Vec::new(alloc);
+    if !line.is_empty() {
+        for word in line.split('|') {
+            words.push(String::from_str(alloc, word)?)?;
+        }
+    }
+    let mut files = Vec::new(alloc);
+    files.push(file(alloc, b"x", b"")?)?;
+    files.push(file(alloc, b"f", FRAME)?)?;
+    files.push(file(alloc, b"--raw", FRAME)?)?;
+    let mut files = MemoryFiles::new(List::from_vec(files), List::new(alloc));
+    let mut out = MemorySink::new(alloc, 1000, List::new(alloc))?;
+    let mut err = MemorySink::new(alloc, 1000, List::new(alloc))?;
+    let answer = run(
+        alloc,
+        words.as_slice(),
+        &mut files,
+        &mut NoDialer::new(),
+        &mut out,
+        &mut err,
+        &mut MemoryClock::new(0, List::new(alloc)),
+    );
+    Ok(Ended {
+        number: answer.status.number(),
+        out,
+        err,
+    })
+}
+
+fn file(alloc: Global, name: &[u8], bytes: &[u8]) -> Result<MemoryFile, Mem> {
+    Ok(MemoryFile {
+        name: Name::new(alloc, name)?,
+        bytes: List::from_slice(alloc, bytes)?,
+    })
+}
+
+#[test]
+fn words_of_sim(rt: HostRuntime) -> Result<(), Fail> {
+    for (line, ticks) in [
+        ("sim|default|x|0", "0"),
+        ("sim|default|x|7", "7"),
+        ("sim|default|x|007", "7"),
+        ("sim|default|x|+7", "7"),
+        ("sim|--|default|x|5", "5"),
+        ("sim|default|x|--|5", "5"),
+        ("sim|default|x|5|--", "5"),
+    ] {
+        let ended = ran(rt.alloc(), line)?;
+        let written = format!(in rt.alloc();
+            "code 0003 ffff 0003 0000\nend {ticks} {}\n",
+            if ticks == "0" { 0 } else { 1 }
+        )?;
+        assert_eq!(rt; ended.number, 0, "{line}");
+        assert_eq!(rt; ended.out.bytes(), written.as_bytes(), "{line}");
+        assert_eq!(rt; ended.err.bytes(), b"".as_slice(), "{line}");
+    }
+    Ok(())
+}
+
+#[test]
+fn words_of_dump(rt: HostRuntime) -> Result<(), Fail> {
+    for line in [
+        "dump|f|--raw",
+        "dump|--raw|f",
+        "dump|--raw|--|f",
+        "dump|--raw|--|--raw",
+    ] {
+        let ended = ran(rt.alloc(), line)?;
+        assert_eq!(rt; ended.number, 0, "{line}");
+        assert_eq!(rt;
+            ended.out.bytes(),
+            b"0 1 raw 0001 0300ffff\n".as_slice(),
+            "{line}"
+        );
+        assert_eq!(rt; ended.err.bytes(), b"".as_slice(), "{line}");
+    }
+    Ok(())
+}
+
+/// Each line is no command line, and is told so, with nothing else.
+fn all_refused(alloc: Global, rt: &impl Abort, lines: &[&str]) -> Result<(), Fail> {
+    for line in lines {
+        let ended = ran(alloc, line)?;
+        assert_eq!(rt; ended.number, 1, "{line}");
+        assert_eq!(rt; ended.out.bytes(), b"".as_slice(), "{line}");
+        assert_eq!(rt;
+            ended.err.bytes(),
+            b"aseba: bad command line\n".as_slice(),
+            "{line}"
+        );
+    }
+    Ok(())
+}
+
+#[test]
+fn words_that_name_no_tool(rt: HostRuntime) -> Result<(), Fail> {
+    let lines: &[&str] = &[
+        "",
+        "|",
+        "--",
+        "--|sim|default|x|5",
+        "Sim|default|x|5",
+        "simulate|default|x|5",
+        "sim ",
+        "help",
+        "--help",
+        "-h",
+        "--version",
+        "-V",
+    ];
+    all_refused(rt.alloc(), &rt, lines)
+}
+
+#[test]
+fn words_that_no_tool_takes(rt: HostRuntime) -> Result<(), Fail> {
+    let lines: &[&str] = &[
+        "sim",
+        "sim|default|x",
+        "sim|default|x|5|5",
+        "sim|default|x|5|--script",
+        "sim|default|x|5|--script|f|--script|f",
+        "sim|default|x|5|--script=f|--script=f",
+        "sim|default|x|5|--raw",
+        "sim|default|x|5|--verbose",
+        "sim|default|x|5|-5",
+        "sim|-v|default|x|5",
+        "sim|--help",
+        "sim|-h",
+        "sim|default|x|5|--version",
+        "sim|default|x|5|-V",
+        "dump",
+        "dump|f|f|--raw",
+        "dump|f|--raw|--raw",
+        "dump|f|--raw=true",
+        "dump|f|--ra",
+        "dump|f|-r",
+        "dump|f|--|--raw",
+    ];
+    all_refused(rt.alloc(), &rt, lines)
+}
+
+#[test]
+fn words_that_are_no_number_of_ticks(rt: HostRuntime) -> Result<(), Fail> {
+    let lines: &[&str] = &[
+        "sim|default|x|",
+        "sim|default|x|-5",
+        "sim|default|x|--|-5",
+        "sim|default|x|++5",
+        "sim|default|x|5 ",
+        "sim|default|x|0x5",
+        "sim|default|x|1.0",
+        "sim|default|x|100000001",
+        "sim|default|x|99999999999999999999",
+    ];
+    all_refused(rt.alloc(), &rt, lines)
+}
+
+#[test]
+fn words_of_what_is_not_there_yet(rt: HostRuntime) -> Result<(), Fail> {
+    let lines: &[&str] = &[
+        "sim|default|x|5|--script|f",
+        "compile|default|x",
+        "node|default|tcp:localhost:33333|5",
+        "dump|f",
+        "dump|f|--raw|--project|default",
+        "dump|tcp:localhost:33333|--raw",
+        "rec|tcp:localhost:33333",
+        "play|f|tcp:localhost:33333",
+        "migrate|f",
+        "massloader|default|x|tcp:localhost:33333|--nodes|2",
+        "make|7|5",
+    ];
+    all_refused(rt.alloc(), &rt, lines)
+}
