@@ -1,6 +1,6 @@
 -- What a parser that looks one token ahead reads: a value and the tokens behind it, or where it stops. The parser's own functions cite it;
 -- what it has to do with the trees that tokens spell is shown in proofs/.
-use Rattle.std.specs.Prelude.{ℕ, zero, suc, Bool, true, false, List, [], ◌∷◌, length, nat_eq, Option, Some, None}
+use Rattle.std.specs.Prelude.{ℕ, zero, suc, ◌-◌, Bool, true, false, List, [], ◌∷◌, length, nat_eq, Option, Some, None}
 use Rattle.aseba_tree.specs.declared.token.Token.{Token}
 use Rattle.aseba_tree.specs.declared.token.TokenKind.{TokenKind}
 use Rattle.aseba_tree.specs.declared.token.Key.{Key}
@@ -166,6 +166,20 @@ prefixed inside level tighter (t ∷ rest) = prefixed_by inside level tighter t 
 abbrev pub level_read : Inside → ℕ → List Token → Read Expr
 level_read inside zero tokens = leaf inside tokens
 level_read inside (suc tighter) tokens = prefixed inside (suc tighter) (level_read inside tighter) tokens
+
+-- the operations of so many levels above `above` behind an expression of that level, one level after the other
+abbrev pub rises : Inside → ℕ → ℕ → Expr → List Token → Read Expr
+rises inside above zero l tokens = taken l tokens
+rises inside above (suc more) l tokens = next (operations (suc above) (level_read inside above) l tokens) (λ e behind. rises inside (suc above) more e behind)
+
+-- the same up to a level
+abbrev pub raised : Inside → ℕ → ℕ → Expr → List Token → Read Expr
+raised inside above level l tokens = rises inside above (level - above) l tokens
+
+-- an operator of one operand, of that level, with its operand
+abbrev pub operand_read : Inside → ℕ → Unary → List Token → Read Expr
+operand_read inside level op [] = wrong []
+operand_read inside level op (t ∷ rest) = opened inside (t ∷ rest) (λ read. next (read level rest) (λ e behind. taken (expr (place t) (place t) (one op e)) behind))
 
 -- the reader of what the next level holds, where so many more may be opened
 abbrev pub inside_of : ℕ → Inside

@@ -1,5 +1,5 @@
 -- What the calls of the parser answer, against what a parser reads.
-use Rattle.std.specs.Prelude.{◌≡◌, ℕ, Bool, true, false, List, [], ◌∷◌, Option, Some, None, option_map, length, Result, Ok, Err}
+use Rattle.std.specs.Prelude.{◌≡◌, ◌<◌, ◌≤◌, IfSome, ℕ, Bool, true, false, List, [], ◌∷◌, Option, Some, None, option_map, length, Result, Ok, Err}
 use Rattle.std.specs.Borrow.{Bor}
 use Rattle.aseba_tree.specs.declared.token.Token.{Token}
 use Rattle.aseba_tree.specs.declared.token.TokenKind.{TokenKind}
@@ -9,13 +9,14 @@ use Rattle.aseba_parser.specs.declared.fault.Fault.TheVariants as fault
 use Rattle.aseba_parser.specs.declared.tokens.Named.{Named}
 use Rattle.aseba_parser.specs.declared.tokens.Opening.{Opening}
 use Rattle.aseba_parser.specs.declared.operators.InfixToken.{InfixToken}
+use Rattle.aseba_parser.specs.declared.operators.PrefixToken.{PrefixToken}
 use Rattle.aseba_parser.specs.declared.block.Tested.{Tested}
 use Rattle.aseba_parser.specs.declared.counted.Counted.{Counted}
 use Rattle.aseba_parser.specs.declared.decl.Given.{Given}
 use Rattle.aseba_tree.specs.View.{place_view, expr_view, stmts_view, head_view}
 use Rattle.aseba_parser.specs.Reading as reading
 use Rattle.aseba_parser.specs.Reading.{Read, taken, wrong, deep, Block, level_read, inside_of, block_of, expr_read, stmts_read, other_read, infix_at, goes_on}
-use Rattle.aseba_tree.specs.Spells.{any_level}
+use Rattle.aseba_tree.specs.Spells.{any_level, operator, prefix_operator, level_of, prefix_level}
 
 -- the reading stops with that fault; want of memory tells nothing of it
 abbrev pub Stops : {A : Type 0} → Read A → Fault → Type 0
@@ -95,3 +96,24 @@ given_view given = record { equals = place_view given.equals; value = option_map
 abbrev pub IsInfix : ℕ → List Token → Option InfixToken → Type 0
 IsInfix level tokens (Some found) = (tokens ≡ found.token.now ∷ found.rest.now) × (infix_at level found.token.now.kind ≡ Some found.op)
 IsInfix level tokens None = begins_with (goes_on level) tokens ≡ false
+
+-- the level of the operator of one operand at the front
+abbrev pub prefix_in_front : List Token → Option ℕ
+prefix_in_front [] = None
+prefix_in_front (t ∷ rest) = option_map prefix_level (prefix_operator t.kind)
+
+-- the operator of one operand at the front, of that level or a tighter one; or that one at the front is looser
+abbrev pub IsPrefix : ℕ → List Token → Option PrefixToken → Type 0
+IsPrefix level tokens (Some found) =
+    (tokens ≡ found.token.now ∷ found.rest.now) × (prefix_operator found.token.now.kind ≡ Some found.op) × (prefix_level found.op ≡ found.level) × (found.level ≤ level)
+IsPrefix level tokens None = IfSome (prefix_in_front tokens) (λ own. level < own)
+
+-- the level of the operator of two operands at the front
+abbrev pub infix_in_front : List Token → Option ℕ
+infix_in_front [] = None
+infix_in_front (t ∷ rest) = option_map level_of (operator t.kind)
+
+-- that level, if it is above the one and not above the other; or that it isn't
+abbrev pub IsInfixLevel : ℕ → ℕ → List Token → Option ℕ → Type 0
+IsInfixLevel above level tokens (Some own) = (infix_in_front tokens ≡ Some own) × (above < own) × (own ≤ level)
+IsInfixLevel above level tokens None = IfSome (infix_in_front tokens) (λ own. above < own → level < own)

@@ -8,7 +8,7 @@ ghost use Rattle.aseba_parser.specs.Reads.{Answers};
 use crate::fault::{Fault, Parsed};
 use crate::lists::with;
 use crate::nodes::{begun_at, cell_at, cells_between, items, number, one, two, value_of};
-use crate::operators::{ANY_LEVEL, InfixToken, LEAVES, infix, prefix_at};
+use crate::operators::{ANY_LEVEL, InfixToken, LEAVES, PrefixToken, infix, infix_level, prefix};
 use crate::tokens::{behind_sign, is_sign, name, opened, sign};
 use aseba_tree::{Expr, Part, Pos, Sign, Target, Token, TokenKind};
 use aseba_words::List;
@@ -20,31 +20,73 @@ pub fn expr<'t>(alloc: Global, depth: u8, level: u8, tokens: &'t [Token]) -> Par
     ensures read { Answers expr_view (reading.expr_read depth level tokens.now) result }
     ensures shorter { IfOk result (λ found. length found.1.now < length tokens.now) }
 {
-    if level == LEAVES {
-        return leaf(alloc, depth, tokens);
-    }
-    match tokens.split_first() {
-        Some((token, rest)) => match prefix_at(level, &token.kind) {
-            Some(op) => {
-                let inside = opened(depth, tokens)?;
-                let (operand, behind) = expr(alloc, inside, level, rest)?;
-                Ok((one(alloc, op, token.at, operand)?, behind))
-            }
-            None => unprefixed(alloc, depth, level, tokens),
-        },
+    match prefix(level, tokens) {
+        Some(found) => prefixed(alloc, depth, level, found, tokens),
         None => unprefixed(alloc, depth, level, tokens),
     }
 }
 
-/// An expression of a level without a prefix operator of that level in front.
+/// An operator of one operand at the front with its operand, and the operations of the levels above
+/// its own, up to a level.
 #[cycle(expr)]
-fn unprefixed<'t>(alloc: Global, depth: u8, level: u8, tokens: &'t [Token]) -> Parsed<'t, Expr>
-    requires { 1 ≤ level }
-    ensures read { Answers expr_view (reading.unprefixed level (reading.expr_read depth (level - 1)) tokens.now) result }
+fn prefixed<'t>(
+    alloc: Global,
+    depth: u8,
+    level: u8,
+    found: PrefixToken<'t>,
+    tokens: &'t [Token],
+) -> Parsed<'t, Expr>
+    requires up_to { found.level ≤ level }
+    requires front { tokens.now ≡ found.token.now ∷ found.rest.now }
+    ensures read { Answers expr_view
+        (reading.next (reading.operand_read (reading.inside_of depth) found.entry.level found.entry.op tokens.now)
+        (λ e behind. reading.raised (reading.inside_of depth) found.entry.level level e behind))
+        result }
     ensures shorter { IfOk result (λ found. length found.1.now < length tokens.now) }
 {
-    let (left, rest) = expr(alloc, depth, level - 1, tokens)?;
-    operations(alloc, depth, level, left, rest)
+    let inside = opened(depth, tokens)?;
+    let (operand, behind) = expr(alloc, inside, found.level, found.rest)?;
+    let whole = one(alloc, found.op, found.token.at, operand)?;
+    raised(alloc, depth, found.level, level, whole, behind)
+}
+
+/// A leaf and the operations of the levels up to that one.
+#[cycle(expr)]
+fn unprefixed<'t>(alloc: Global, depth: u8, level: u8, tokens: &'t [Token]) -> Parsed<'t, Expr>
+    ensures read { Answers expr_view
+        (reading.next (reading.leaf (reading.inside_of depth) tokens.now) (λ e behind. reading.raised (reading.inside_of depth) 0 level e behind))
+        result }
+    ensures shorter { IfOk result (λ found. length found.1.now < length tokens.now) }
+{
+    let (first, behind) = leaf(alloc, depth, tokens)?;
+    raised(alloc, depth, LEAVES, level, first, behind)
+}
+
+/// An expression of the level `above` with the operations behind it of the levels from there up to
+/// `level`. It goes from one to the next whose operator stands there.
+#[cycle(expr)]
+fn raised<'t>(
+    alloc: Global,
+    depth: u8,
+    above: u8,
+    level: u8,
+    first: Expr,
+    tokens: &'t [Token],
+) -> Parsed<'t, Expr>
+    requires { above ≤ level }
+    ensures read { Answers expr_view (reading.raised (reading.inside_of depth) above level (expr_view first) tokens.now) result }
+    ensures shorter { IfOk result (λ found. length found.1.now ≤ length tokens.now) }
+{
+    let mut done = above;
+    let mut left = first;
+    let mut rest = tokens;
+    while let Some(own) = infix_level(done, level, rest) {
+        let (grown, behind) = operations(alloc, depth, own, left, rest)?;
+        done = own;
+        left = grown;
+        rest = behind;
+    }
+    Ok((left, rest))
 }
 
 /// The operations of a level behind their first operand, grouped to the left.

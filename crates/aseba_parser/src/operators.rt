@@ -1,7 +1,7 @@
 ghost use Rattle.std.specs.Prelude.{◌≡◌};
 ghost use Rattle.aseba_tree.specs.Spells as spells;
 ghost use Rattle.aseba_parser.specs.Reading as reading;
-ghost use Rattle.aseba_parser.specs.Reads.{IsInfix};
+ghost use Rattle.aseba_parser.specs.Reads.{IsPrefix, IsInfix, IsInfixLevel};
 
 use aseba_tree::{Key, Sign, Token, TokenKind};
 use aseba_words::{Binary, Unary};
@@ -122,13 +122,44 @@ fn infix_at(level: u8, kind: &TokenKind) -> Option<Binary>
     }
 }
 
-/// The operator of one operand that a token is, if it is one of that level.
-pub fn prefix_at(level: u8, kind: &TokenKind) -> Option<Unary>
-    ensures { result ≡ reading.prefix_at level kind.now }
+/// An operator of one operand with its level, its token and the tokens behind it.
+#[derive(Clone, Copy)]
+pub struct PrefixToken<'t> {
+    pub op: Unary,
+    pub level: u8,
+    pub token: &'t Token,
+    pub rest: &'t [Token],
+}
+
+/// The operator of one operand at the front, if it is of that level or of a tighter one.
+pub fn prefix<'t>(level: u8, tokens: &'t [Token]) -> Option<PrefixToken<'t>>
+    ensures { IsPrefix level tokens.now result }
 {
-    match prefix_operator(kind) {
-        Some(op) if prefix_level(op) == level => Some(op),
-        _ => None,
+    match tokens.split_first() {
+        Some((token, rest)) => match prefix_operator(&token.kind) {
+            Some(op) if prefix_level(op) <= level => Some(PrefixToken {
+                op,
+                level: prefix_level(op),
+                token,
+                rest,
+            }),
+            _ => None,
+        },
+        None => None,
+    }
+}
+
+/// The level of the operator of two operands at the front, if it is above the one level and not
+/// above the other.
+pub fn infix_level(above: u8, level: u8, tokens: &[Token]) -> Option<u8>
+    ensures { IsInfixLevel above level tokens.now result }
+{
+    match tokens.split_first() {
+        Some((token, _)) => match operator(&token.kind) {
+            Some(op) if above < level_of(op) && level_of(op) <= level => Some(level_of(op)),
+            _ => None,
+        },
+        None => None,
     }
 }
 

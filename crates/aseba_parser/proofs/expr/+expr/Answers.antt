@@ -3,25 +3,40 @@ use Rattle.std.proofs.lemmas.Result.{err_from_is_err_and}
 use Rattle.aseba_tree.specs.View.{expr_view}
 use Rattle.aseba_parser.specs.Reading as reading
 use Rattle.aseba_parser.specs.Reads.{Answers}
-use Rattle.aseba_parser.proofs.Levels.{unprefixed-at, unprefixed-none}
+use Rattle.aseba_parser.proofs.Levels.{prefixed-is, unprefixed-is, raised-on, raised-stops, raised-ends}
 use Rattle.aseba_parser.proofs.Growth.{grows-on, growth-stops, growth-ends}
 use Rattle.aseba_parser.proofs.Commas.{first-listed, first-stops, lists-on, listing-stops, listed}
 use Rattle.aseba_parser.proofs.expr.+expr.Goals as goal
 
-pub expr-returns-in-None-prefix_at-clause-read : goal.expr-returns-in-None-prefix_at-clause-read
-expr-returns-in-None-prefix_at-clause-read t c =
-    let least : 1 ≤ c.args.level = omega arith in
-    let none : reading.prefix_at c.args.level c.in-Some.token.now.kind ≡ None = cc in
-    subst (λ (r : reading.Read _). Answers expr_view r c.unprefixed.result)
-    (sym (unprefixed-at (reading.inside_of c.args.depth) c.args.level c.args.tokens.now c.in-Some.token.now c.in-Some.rest.now least c.in-Some.ensures.cases.0 none))
-    c.unprefixed.ensures.read
+pub expr-returns-in-Some-clause-read : goal.expr-returns-in-Some-clause-read
+expr-returns-in-Some-clause-read t c =
+    subst (λ (r : reading.Read _). Answers expr_view r c.prefixed.result)
+    (sym (prefixed-is (reading.inside_of c.args.depth) c.in-Some.found.level c.args.level c.args.tokens.now c.in-Some.found.token.now c.in-Some.found.rest.now c.in-Some.found.op c.in-Some.ensures.0 c.in-Some.ensures.1 c.in-Some.ensures.2 c.in-Some.ensures.3))
+    c.prefixed.ensures.read
 
 pub expr-returns-in-None-clause-read : goal.expr-returns-in-None-clause-read
 expr-returns-in-None-clause-read t c =
-    let least : 1 ≤ c.args.level = omega arith in
-    subst (λ (r : reading.Read _). Answers expr_view r c.unprefixed-in-None.result)
-    (sym (unprefixed-none (reading.inside_of c.args.depth) c.args.level c.args.tokens.now least c.in-None.ensures.cases))
-    c.unprefixed-in-None.ensures.read
+    subst (λ (r : reading.Read _). Answers expr_view r c.unprefixed.result) (sym (unprefixed-is (reading.inside_of c.args.depth) c.args.level c.args.tokens.now c.in-None.ensures)) c.unprefixed.ensures.read
+
+pub raised-returns-in_err-grown-clause-read : goal.raised-returns-in_err-grown-clause-read
+raised-returns-in_err-grown-clause-read t c =
+    let p = err_from_is_err_and c.from_residual.result c.from_residual.ensures.1 in
+    rw (p.1, p.2)
+    (raised-stops (reading.inside_of c.args.depth) c.loop-own.done c.in-Some.own c.args.level (expr_view c.loop-own.left) c.loop-own.rest.now _ c.in_err-grown.field-0.0 c.loop-own.invariant.2
+    c.in-Some.ensures.0 c.in-Some.ensures.1 c.in-Some.ensures.2 c.in_err-grown.ensures.read)
+
+pub raised-loop-own-preserved : goal.raised-loop-own-preserved
+raised-loop-own-preserved t c =
+    let shorter : length c.in_ok-grown.behind.now ≤ length c.loop-own.rest.now = c.in_ok-grown.ensures.shorter in (
+      omega (arith, c.loop-own.invariant.0),
+      c.in-Some.ensures.2,
+      raised-on (reading.inside_of c.args.depth) c.loop-own.done c.in-Some.own c.args.level (expr_view c.loop-own.left) (expr_view c.in_ok-grown.grown) c.loop-own.rest.now c.in_ok-grown.behind.now _ c.loop-own.invariant.2
+          c.in-Some.ensures.0 c.in-Some.ensures.1 c.in-Some.ensures.2 c.in_ok-grown.ensures.read,
+    )
+
+pub raised-returns-clause-read : goal.raised-returns-clause-read
+raised-returns-clause-read t c =
+    raised-ends (reading.inside_of c.args.depth) c.loop-own.done c.args.level (expr_view c.loop-own.left) c.loop-own.rest.now _ c.loop-own.invariant.2 c.loop-own.invariant.1 c.in_default.ensures
 
 pub operations-returns-in_err-grown-clause-read : goal.operations-returns-in_err-grown-clause-read
 operations-returns-in_err-grown-clause-read t c =

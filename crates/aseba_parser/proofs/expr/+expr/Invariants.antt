@@ -1,4 +1,4 @@
-use Rattle.std.proofs.Common.{◌+◌, ◌-◌, ◌*◌, ◌≤◌, ◌<◌, length, map}
+use Rattle.std.proofs.Common.{◌≡◌, ◌+◌, ◌-◌, ◌*◌, ◌≤◌, ◌<◌, length, map}
 use Rattle.aseba_tree.specs.View.{expr_view}
 use Rattle.aseba_parser.specs.Reading as reading
 use Rattle.aseba_parser.specs.Reading.{expr_read}
@@ -9,8 +9,14 @@ use Rattle.aseba_parser.proofs.expr.+expr.Given as goal
 abbrev pub decreases-expr : goal.decreases-expr
 decreases-expr l = 300 * l.depth + 20 * l.level + 10
 
+abbrev pub decreases-prefixed : goal.decreases-prefixed
+decreases-prefixed l = 300 * l.depth + 20 * l.level + 9
+
 abbrev pub decreases-unprefixed : goal.decreases-unprefixed
-decreases-unprefixed l = 300 * l.depth + 20 * l.level + 8
+decreases-unprefixed l = 300 * l.depth + 20 * l.level + 9
+
+abbrev pub decreases-raised : goal.decreases-raised
+decreases-raised l = 300 * l.depth + 20 * l.level + 8
 
 abbrev pub decreases-operations : goal.decreases-operations
 decreases-operations l = 300 * l.depth + 20 * l.level + 6
@@ -19,7 +25,7 @@ abbrev pub decreases-operation : goal.decreases-operation
 decreases-operation l = 300 * l.depth + 20 * l.level + 4
 
 abbrev pub decreases-leaf : goal.decreases-leaf
-decreases-leaf l = 300 * l.depth + 8
+decreases-leaf l = 300 * l.depth + 6
 
 abbrev pub decreases-parenthesised : goal.decreases-parenthesised
 decreases-parenthesised l = 300 * l.inside + 240
@@ -34,13 +40,21 @@ abbrev pub decreases-element : goal.decreases-element
 decreases-element l = 300 * l.inside + 240
 
 abbrev pub decreases-target : goal.decreases-target
-decreases-target l = 300 * l.depth + 6
+decreases-target l = 300 * l.depth + 5
 
 abbrev pub decreases-part : goal.decreases-part
 decreases-part l = 300 * l.depth + 4
 
 abbrev pub decreases-index_end : goal.decreases-index_end
 decreases-index_end l = 300 * l.inside + 240
+
+abbrev pub invariant-raised-loop-own : goal.invariant-raised-loop-own
+invariant-raised-loop-own l =
+    (length l.rest ≤ length l.fn.tokens) × (l.done ≤ l.level) ×
+    (reading.raised (reading.inside_of l.depth) l.done l.level (expr_view l.left) l.rest ≡ reading.raised (reading.inside_of l.depth) l.fn.above l.level (expr_view l.fn.first) l.fn.tokens)
+
+abbrev pub decreases-raised-loop-own : goal.decreases-raised-loop-own
+decreases-raised-loop-own l = l.level - l.done
 
 abbrev pub invariant-operations-loop-found : goal.invariant-operations-loop-found
 invariant-operations-loop-found l =
