@@ -72,7 +72,7 @@ module _ {S : Type 0} (system : System S) (obeys : (beat : Bool) (s : S) → (sy
 
 -- Lines that are left as they are
 
-report-left : (report : Report) → report_by (λ line. line) report ≡ report
+pub report-left : (report : Report) → report_by (λ line. line) report ≡ report
 report-left (began e) = refl
 report-left (ignored e) = refl
 report-left (dropped e) = refl

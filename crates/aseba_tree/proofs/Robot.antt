@@ -9,7 +9,7 @@ use Rattle.aseba_tree.specs.Line.{named, began, was_set, sent, told, var, end}
 use Rattle.aseba_tree.specs.Script.{sets, Script}
 use Rattle.aseba_tree.specs.State.{Program, loaded}
 use Rattle.aseba_tree.specs.Step.{step}
-use Rattle.aseba_tree.specs.Lines.{lines_of, moments}
+use Rattle.aseba_tree.specs.Lines.{source_lines, source_moments}
 use Rattle.aseba_tree.proofs.Written.{spot, ex, num, name, st, block, store, decl, onevent, natives, event}
 
 abbrev wl : Name
@@ -125,7 +125,7 @@ script =
     event 18 (codes "prox") [] ∷ record { time = 63; action = sets prox 0 (pos 0 ∷ pos 0 ∷ pos 3000 ∷ pos 0 ∷ pos 0 ∷ pos 0 ∷ pos 0 ∷ []) }
     ∷ event 63 (codes "prox") [] ∷ event 111 (codes "timer0") [] ∷ event 113 (codes "button.center") [] ∷ event 115 (codes "prox") [] ∷ []
 
-robot : lines_of program script (replicate 154 true) ≡
+robot : source_lines program script (replicate 154 true) ≡
     told 18 18 (began (named (codes "prox"))) ∷ told 63 63 (was_set prox) ∷ told 63 63 (began (named (codes "prox")))
     ∷ told 111 111 (began (named (codes "timer0"))) ∷ told 111 112 (sent (named (codes "alive")) (pos 1 ∷ pos 1 ∷ []))
     ∷ told 113 113 (began (named (codes "button.center"))) ∷ told 115 115 (began (named (codes "prox")))
@@ -137,6 +137,6 @@ unfolding int_wrap loaded step
 robot = refl
 
 -- no step of these came to an idle state
-robot-rests : list_all (λ m. m.runs) (moments program script (replicate 154 true)) ≡ true
+robot-rests : list_all (λ m. m.runs) (source_moments program script (replicate 154 true)) ≡ true
 unfolding int_wrap loaded step
 robot-rests = refl

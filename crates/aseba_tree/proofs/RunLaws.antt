@@ -1,11 +1,12 @@
 -- The runs of two systems that are tied go alike.
-use Rattle.std.proofs.Common.{◌≡◌, ℕ, suc, ◌||◌, Bool, true, false, List, [], ◌∷◌, ◌++◌, map, Option, None, Some, refl, sym, ap, ◌∙◌, arith, All}
+use Rattle.std.proofs.Common.{◌≡◌, ℕ, suc, ◌+◌, ◌||◌, if◌then◌else◌, length, count_by, Bool, true, false, List, [], ◌∷◌, ◌++◌, map, Option, None, Some, refl, sym, ap, ◌∙◌, arith, All}
 use Rattle.std.specs.Prelude.{ℤ, option_map, option_to_list}
 use Rattle.std.proofs.lemmas.List.{map-append}
+use Rattle.std.proofs.lemmas.List.Sums.{sum_by-cons}
 use Rattle.aseba_tree.specs.Code.{Name}
 use Rattle.aseba_tree.specs.Line.{Event, Report, report_by, Line, told, var, end, line_by}
 use Rattle.aseba_tree.specs.Script.{Action, arrives, sets, Script, actions_at}
-use Rattle.aseba_tree.specs.Run.{Meeting, unheard, refused, kills, begins, meeting_reports, is_begun, Ticked, System, Run, begin, counted, acting, action_reports, begins_by, all_acting, all_reports, heard, reached, moment, all_ticking, lines_from, moments_from, beats_from, ending, run_of, moments, beats_of, CallsKnown}
+use Rattle.aseba_tree.specs.Run.{Meeting, unheard, refused, kills, begins, meeting_reports, is_begun, Ticked, System, Run, begin, counted, acting, action_reports, begins_by, all_acting, all_reports, heard, reached, acted, ticking, moment, all_ticking, lines_from, moments_from, beats_from, ending, run_of, moments, beats_of, CallsKnown}
 use Rattle.aseba_tree.specs.Tied.{meeting_by, MetAlike, TickedAlike, RunsAlike, Tied}
 
 -- Lines, and meetings, told alike
@@ -33,7 +34,7 @@ meeting-begun f refused = refl
 meeting-begun f (kills line) = refl
 meeting-begun f begins = refl
 
-vars-kept : (f : ℕ → ℕ) (vs : List (Name × List ℤ)) (t k : ℕ) → map (line_by f) (map (λ v. var v.0 v.1) vs ++ end t k ∷ []) ≡ map (λ v. var v.0 v.1) vs ++ end t k ∷ []
+pub vars-kept : (f : ℕ → ℕ) (vs : List (Name × List ℤ)) (t k : ℕ) → map (line_by f) (map (λ v. var v.0 v.1) vs ++ end t k ∷ []) ≡ map (λ v. var v.0 v.1) vs ++ end t k ∷ []
 vars-kept f [] t k = refl
 vars-kept f (v ∷ vs) t k = ap (λ rest. var v.0 v.1 ∷ rest) (vars-kept f vs t k)
 
@@ -148,3 +149,25 @@ module _ {S : Type 0} {T : Type 0} (Good : Action → Type 0) (Known : Name → 
           effects = all.effects;
           tied = all.end_tied;
         }
+
+-- Beats
+
+module _ {S : Type 0} (system : System S) (script : Script) where
+  -- A run has a beat for each tick.
+  pub beats-many : (hints : List Bool) (run : Run S) → length (beats_from system script run hints) ≡ length hints
+  beats-many [] run = refl
+  beats-many (hint ∷ hints) run = ap suc (beats-many hints (ticking system script run hint))
+
+  -- The effects that a run counts are its true beats.
+  pub beats-counted : (hints : List Bool) (run : Run S)
+      → (all_ticking system script run hints).effects ≡ run.effects + count_by (λ beat. beat) (beats_from system script run hints)
+  beats-counted [] run = omega arith
+  beats-counted (hint ∷ hints) run =
+      let next : Run S = ticking system script run hint in
+      let beat : Bool = (system.tick hint (acted system script run)).counts in
+      let more : counted beat run.effects ≡ run.effects + (if beat then 1 else 0) = one-more beat run.effects in
+      omega (arith, beats-counted hints next, more, sum_by-cons (λ (b : Bool). if b then 1 else 0) beat (beats_from system script next hints))
+    where
+      one-more : (b : Bool) (k : ℕ) → counted b k ≡ k + (if b then 1 else 0)
+      one-more true k = omega arith
+      one-more false k = omega arith

@@ -7,7 +7,8 @@ use Rattle.aseba_tree.specs.Value.{Stop, Cells, elements, value}
 use Rattle.aseba_tree.specs.State.{Program, tasks, list_whens, Task, perform, put, leave, turn, try, next, back, finish, State, none_held}
 use Rattle.aseba_tree.specs.Step.{Stepped, ended, applied, applied_cells, storing, places, assigned, changed, ones, target_expr, tested, leaving, edge, emitted_cells, emitted, behind_back, returned, first_done, called, reached, arguments, argument_sizes, Argument, task_native, is_running, next_native, step}
 use Rattle.aseba_tree.specs.Laws.{is_stop, IdleStaysIdle}
-use Rattle.aseba_tree.specs.Lines.{Run, all_ticking}
+use Rattle.aseba_tree.specs.Run.{Run, all_ticking, lines_from}
+use Rattle.aseba_tree.specs.Lines.{source_system}
 
 -- after a stop the state is the one in which the handler ended, paused
 abbrev StopsWell : State → Stepped → Type 0
@@ -100,6 +101,10 @@ pub step-idle : IdleStaysIdle
 unfolding step
 step-idle program s h = rw h refl
 
-pub all_ticking-false : (program : Program) (run : Run) (n : ℕ) → all_ticking program [] run (replicate n false) ≡ record run { ticks = run.ticks + n }
+pub all_ticking-false : (program : Program) (run : Run State) (n : ℕ) → all_ticking (source_system program) [] run (replicate n false) ≡ record run { ticks = run.ticks + n }
 all_ticking-false program run zero = λ i. record run { ticks = sym (add-zero run.ticks) i }
 all_ticking-false program run (suc n) = all_ticking-false program (record run { ticks = suc run.ticks }) n ∙ (λ i. record run { ticks = (suc-add run.ticks n ∙ sym (add-suc run.ticks n)) i })
+
+pub lines-false : (program : Program) (run : Run State) (n : ℕ) → lines_from (source_system program) [] run (replicate n false) ≡ []
+lines-false program run zero = refl
+lines-false program run (suc n) = lines-false program (record run { ticks = suc run.ticks }) n

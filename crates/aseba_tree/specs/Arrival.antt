@@ -3,7 +3,8 @@ use Rattle.std.specs.Prelude.{ℕ, suc, ℤ, pos, true, false, ◌&&◌, if◌th
 use Rattle.std.specs.List.{list_any}
 use Rattle.aseba_words.specs.Cell.{wrapped}
 use Rattle.aseba_tree.specs.Code.{Name, Handler, Project}
-use Rattle.aseba_tree.specs.Line.{Event, named, numbered, Report, began, ignored, dropped, killed}
+use Rattle.aseba_tree.specs.Line.{Event, named, numbered}
+use Rattle.aseba_tree.specs.Run.{Met, unheard, refused, kills, begins}
 use Rattle.aseba_tree.specs.Value.{Named, Cells, put_cell}
 use Rattle.aseba_tree.specs.State.{Program, finish, tasks, part_named, State}
 use Rattle.aseba_tree.specs.Step.{ended, next_line}
@@ -35,18 +36,13 @@ abbrev pub handler_of : Program → Event → Option (ℕ × Handler)
 handler_of program (named name) = part_named program.source false name
 handler_of program (numbered n) = None
 
--- the state after an arrival, and what it tells
-pub record Arrived : Type 0 where
-  pub state : State
-  pub reports : List Report
-
 -- An event comes to its handler: a paused handler stays as it is; one that runs is killed before the effect that was next.
-abbrev pub arrived : Program → State → Event → (source : ℕ) → (args : List ℤ) → Option (ℕ × Handler) → Arrived
-arrived program s event source args None = record { state = s; reports = ignored event ∷ [] }
-arrived program s event source args (Some handler) =
-    if s.paused && s.active then record { state = s; reports = dropped event ∷ [] }
-    else (if s.active then record { state = begun program (ended s) handler source args; reports = killed (next_line s) ∷ began event ∷ [] }
-    else record { state = begun program s handler source args; reports = began event ∷ [] })
+abbrev pub arrived : Program → State → (source : ℕ) → (args : List ℤ) → Option (ℕ × Handler) → Met State
+arrived program s source args None = record { state = s; meeting = unheard }
+arrived program s source args (Some handler) =
+    if s.paused && s.active then record { state = s; meeting = refused }
+    else (if s.active then record { state = begun program (ended s) handler source args; meeting = kills (next_line s) }
+    else record { state = begun program s handler source args; meeting = begins })
 
-abbrev pub arrive : Program → State → Event → (source : ℕ) → (args : List ℤ) → Arrived
-arrive program s event source args = arrived program s event source args (handler_of program event)
+abbrev pub arrive : Program → State → Event → (source : ℕ) → (args : List ℤ) → Met State
+arrive program s event source args = arrived program s source args (handler_of program event)

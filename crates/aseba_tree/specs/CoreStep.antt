@@ -4,7 +4,8 @@ use Rattle.std.specs.Option.{option_or, option_eq}
 use Rattle.aseba_words.specs.Cell.{wrapped, is_true}
 use Rattle.aseba_words.specs.Natives.{native_run, native_params}
 use Rattle.aseba_tree.specs.Code.{Name, Sized, Project}
-use Rattle.aseba_tree.specs.Line.{Event, named, numbered, Report, began, ignored, dropped, killed, sent}
+use Rattle.aseba_tree.specs.Line.{Event, named, numbered, Report, sent}
+use Rattle.aseba_tree.specs.Run.{Met, unheard, refused, kills, begins}
 use Rattle.aseba_tree.specs.Value.{Stop, by_zero, Element, and_then, place_among, unary_element, binary_element}
 use Rattle.aseba_tree.specs.Step.{applied_cells, stop_report}
 use Rattle.aseba_tree.specs.Events.{event_number, event_of}
@@ -244,17 +245,12 @@ abbrev pub core_handler_of : CoreProgram → Option ℕ → Option (ℕ × CoreP
 core_handler_of program None = None
 core_handler_of program (Some event) = handler_among event (core_list_whens program.core.init) program.core.parts
 
--- the state after an arrival, and what it tells
-pub record CoreArrived : Type 0 where
-  pub state : CoreState
-  pub reports : List Report
+abbrev pub core_arrived : CoreProgram → CoreState → (source : ℕ) → (args : List ℤ) → Option (ℕ × CorePart) → Met CoreState
+core_arrived program s source args None = record { state = s; meeting = unheard }
+core_arrived program s source args (Some handler) =
+    if s.paused && s.active then record { state = s; meeting = refused }
+    else (if s.active then record { state = core_begun program (core_ended s) handler source args; meeting = kills (core_next_line s) }
+    else record { state = core_begun program s handler source args; meeting = begins })
 
-abbrev pub core_arrived : CoreProgram → CoreState → Event → (source : ℕ) → (args : List ℤ) → Option (ℕ × CorePart) → CoreArrived
-core_arrived program s event source args None = record { state = s; reports = ignored event ∷ [] }
-core_arrived program s event source args (Some handler) =
-    if s.paused && s.active then record { state = s; reports = dropped event ∷ [] }
-    else (if s.active then record { state = core_begun program (core_ended s) handler source args; reports = killed (core_next_line s) ∷ began event ∷ [] }
-    else record { state = core_begun program s handler source args; reports = began event ∷ [] })
-
-abbrev pub core_arrive : CoreProgram → CoreState → Event → (source : ℕ) → (args : List ℤ) → CoreArrived
-core_arrive program s event source args = core_arrived program s event source args (core_handler_of program (event_number program.project event))
+abbrev pub core_arrive : CoreProgram → CoreState → Event → (source : ℕ) → (args : List ℤ) → Met CoreState
+core_arrive program s event source args = core_arrived program s source args (core_handler_of program (event_number program.project event))

@@ -1,5 +1,5 @@
 -- Where the variables of a program lie: those of the node first, in the order of its description, then those of the source, in the order of their declarations.
-use Rattle.std.specs.Prelude.{◌≡◌, ℕ, ◌+◌, ◌≤◌, if◌then◌else◌, List, [], ◌∷◌, ◌++◌, take, length, find, sum_by, All, bytes_eq, Option, Some, None}
+use Rattle.std.specs.Prelude.{◌≡◌, ℕ, ◌+◌, ℤ, ◌≤◌, if◌then◌else◌, List, [], ◌∷◌, ◌++◌, map, take, drop, length, find, sum_by, All, bytes_eq, Option, Some, None}
 use Rattle.aseba_tree.specs.Code.{Name, Sized, Project}
 use Rattle.aseba_tree.specs.State.{Program, node_variables, declared}
 
@@ -45,3 +45,7 @@ pub record HasPlaces (project : Project) (variables : List Sized) (cells : ℕ) 
   pub first : take (length (node_variables project)) variables ≡ node_variables project
   pub inside : sum_by (λ v. v.size) variables ≤ cells
   pub laid : places ≡ placed_from 0 variables
+
+-- what placed variables hold in a memory
+abbrev pub cells_at : List ℤ → List Placed → List (Name × List ℤ)
+cells_at memory places = map (λ v. (v.name, take v.size (drop v.start memory))) places

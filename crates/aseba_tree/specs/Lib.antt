@@ -5,6 +5,7 @@ pub mod CoreCells
 pub mod CoreExpr
 pub mod CoreLines
 pub mod CoreNumbers
+pub mod CoreRun
 pub mod CoreShape
 pub mod CoreStep
 pub mod Each
@@ -19,6 +20,7 @@ pub mod Limits
 pub mod Line
 pub mod Lines
 pub mod Moves
+pub mod NativeName
 pub mod Nest
 pub mod Numbers
 pub mod Run

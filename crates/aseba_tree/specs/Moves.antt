@@ -1,6 +1,7 @@
 -- Runs by moves: steps, and between them what comes from outside, in any order.
 use Rattle.std.specs.Prelude.{List, [], ◌∷◌, ◌++◌, option_to_list}
 use Rattle.aseba_tree.specs.Line.{Report, was_set}
+use Rattle.aseba_tree.specs.Run.{meeting_reports}
 use Rattle.aseba_tree.specs.Script.{Action, arrives, sets}
 use Rattle.aseba_tree.specs.State.{Program, State}
 use Rattle.aseba_tree.specs.Step.{step}
@@ -23,7 +24,7 @@ pub record CoreCourse : Type 0 where
 abbrev pub moved : Program → Course → Move → Course
 moved program c steps = let after = step program c.state in record { state = after.state; reports = c.reports ++ option_to_list after.report }
 moved program c (acts (arrives event source args)) =
-    let after = arrive program c.state event source args in record { state = after.state; reports = c.reports ++ after.reports }
+    let after = arrive program c.state event source args in record { state = after.state; reports = c.reports ++ meeting_reports event after.meeting }
 moved program c (acts (sets name first values)) = record { state = write c.state name first values; reports = c.reports ++ was_set name ∷ [] }
 
 abbrev pub all_moved : Program → Course → List Move → Course
@@ -33,7 +34,7 @@ all_moved program c (move ∷ moves) = all_moved program (moved program c move) 
 abbrev pub core_moved : CoreProgram → CoreCourse → Move → CoreCourse
 core_moved program c steps = let after = core_step program c.state in record { state = after.state; reports = c.reports ++ option_to_list after.report }
 core_moved program c (acts (arrives event source args)) =
-    let after = core_arrive program c.state event source args in record { state = after.state; reports = c.reports ++ after.reports }
+    let after = core_arrive program c.state event source args in record { state = after.state; reports = c.reports ++ meeting_reports event after.meeting }
 core_moved program c (acts (sets name first values)) = record { state = core_write program c.state name first values; reports = c.reports ++ was_set name ∷ [] }
 
 abbrev pub core_all_moved : CoreProgram → CoreCourse → List Move → CoreCourse
