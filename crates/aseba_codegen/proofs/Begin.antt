@@ -13,8 +13,8 @@ use Rattle.aseba_tree.specs.CoreShape.{is_readable, is_good_list}
 use Rattle.aseba_tree.specs.Numbers.{is_large}
 use Rattle.aseba_vm.specs.State.{State, named, none_held}
 use Rattle.aseba_vm.specs.Lists.{handler_of}
-use Rattle.aseba_vm.specs.Loaded.{made, loaded, reset_state, fresh_cells}
-use Rattle.aseba_codegen.specs.Table.{shape_of, started}
+use Rattle.aseba_vm.specs.Loaded.{reset_state, fresh_cells}
+use Rattle.aseba_target.specs.Node.{shape_of, IsStarted}
 use Rattle.aseba_codegen.specs.declared.coded.Coded.{Coded}
 use Rattle.aseba_codegen.specs.Words.{Site, on_line, instruction, store_code, site_of, form_code, list_code, body_code, init_code, init_start, part_starts, table_of, table_code, core_code, code_words}
 use Rattle.aseba_codegen.specs.Agrees.{IsStraightCore, truths, is_straight, is_straight_form}
@@ -152,26 +152,30 @@ named-long (Some a) id xs = length-set xs a _
 
 -- The machine
 
--- with the words in its code, at the place of the init code
-abbrev first_state : Project → List ℕ → ℕ → State
-first_state project words at = record {
+-- a list in two pieces
+split-at : {A : Type 0} (n : ℕ) (xs : List A) → take n xs ++ drop n xs ≡ xs
+split-at zero xs = refl
+split-at (suc n) [] = refl
+split-at (suc n) (x ∷ xs) = ap (λ rest. x ∷ rest) (split-at n xs)
+
+-- with the words in its code and others behind them, at the place of the init code
+abbrev first_state : Project → List ℕ → List ℕ → List (Option ℤ) → ℕ → State
+first_state project words behind held at = record {
   shape = shape_of project;
   id = project.id;
-  code = words ++ drop (0 + length words) (replicate project.node.code 0);
+  code = words ++ behind;
   cells = fresh_cells (shape_of project) project.id;
   stack = [];
   pc = at;
   active = true;
   paused = false;
-  held = none_held (replicate project.node.cells None);
+  held = none_held held;
 }
 
-started-is : (project : Project) (words : List ℕ) (at : ℕ) → length words ≤ project.node.code → handler_of 65535 (words ++ drop (0 + length words) (replicate project.node.code 0)) ≡ Some at
-    → started project words ≡ first_state project words at
-unfolding started made loaded reset_state
-started-is project words at fits found =
-    let inside : nat_le (0 + length words) project.node.code ≡ true = le-leb _ _ (omega arith) in
-    rw (inside, found) refl
+reset-is : (project : Project) (words behind : List ℕ) (at : ℕ) (before : State) → before.shape ≡ shape_of project → before.id ≡ project.id → before.code ≡ words ++ behind
+    → handler_of 65535 (words ++ behind) ≡ Some at → reset_state false before ≡ first_state project words behind before.held at
+unfolding reset_state
+reset-is project words behind at before shape id code found = rw (code, found, shape, id) refl
 
 module _ (project : Project) (variables : List Sized) (init : CoreStmts) (cells room size depth : ℕ) where
   abbrev pub alone : Core
@@ -225,19 +229,18 @@ module _ (project : Project) (variables : List Sized) (init : CoreStmts) (cells 
   start-small : init_start project alone % 65536 ≡ init_start project alone
   start-small = let e : init_start project alone ≡ 3 = start-is in omega arith
 
-  pub first-words : IsStraightCore project alone → length (code_words project alone) ≤ project.node.code
-  first-words h =
-      let shape = h.shape in
-      let a = shape.has_size in
-      let b = h.size in
-      omega (arith, length-map {A = Coded} {B = ℕ} (core_code project alone) (λ c. c.word), code-long project alone)
+  pub first-state : (m : State) → (h : IsStarted project (code_words project alone) m)
+      → m ≡ first_state project (code_words project alone) (drop (length (code_words project alone)) (h.before).code) (h.before).held (init_start project alone)
+  first-state m h =
+      let words : List ℕ = code_words project alone in
+      let behind : List ℕ = drop (length words) (h.before).code in
+      let code : (h.before).code ≡ words ++ behind = sym (split-at (length words) (h.before).code) ∙ ap (λ first. first ++ behind) h.begins in
+      h.reset ∙ reset-is project words behind (init_start project alone) h.before h.shape h.id code (ap Some start-small)
 
-  pub first-state : IsStraightCore project alone → started project (code_words project alone) ≡ first_state project (code_words project alone) (init_start project alone)
-  first-state h = started-is project (code_words project alone) (init_start project alone) (first-words h) (ap Some start-small)
-
-  first-base : IsStraightCore project alone → Base alone_program (core_code project alone) (core_weight alone) (first_state project (code_words project alone) (init_start project alone)) (core_loaded alone_program)
+  first-base : IsStraightCore project alone → (behind : List ℕ) (held : List (Option ℤ)) → length held ≡ project.node.cells
+      → Base alone_program (core_code project alone) (core_weight alone) (first_state project (code_words project alone) behind held (init_start project alone)) (core_loaded alone_program)
   unfolding core_loaded
-  first-base h =
+  first-base h behind held held_many =
       let node = h.node in
       let shape = h.shape in
       let enough : cells + room ≤ project.node.cells = shape.has_room in
@@ -248,30 +251,32 @@ module _ (project : Project) (variables : List Sized) (init : CoreStmts) (cells 
       let bits_none : whens_before alone 0 ≡ 0 = let w = whens-none init h.straight in omega arith in
       record {
         same_cells = λ a below. rw place (first-cells o project.id project.node.cells (cells + room) a (λ x e. address-size project.node.variables (codes "_id") 0 x node.sizes e) (omega arith) (omega arith) node.id);
-        same_held = λ a below. none-at (length (replicate project.node.cells None)) a ∙ sym (core_none-at (put_into o 0 (wrapped (pos project.id) ∷ []) (replicate (cells + room) (pos 0))) a);
+        same_held = λ a below. none-at (length held) a ∙ sym (core_none-at (put_into o 0 (wrapped (pos project.id) ∷ []) (replicate (cells + room) (pos 0))) a);
         long = omega arith;
         few = let few = node.cells in omega arith;
-        held_long = length-replicate (length (replicate {A = Option ℤ} project.node.cells None)) None ∙ length-replicate project.node.cells None ∙ sym many;
+        held_long = length-replicate (length held) None ∙ held_many ∙ sym many;
         core_long = core_many;
         core_held_long = length-map {A = ℤ} {B = Option ℤ} (put_into o 0 (wrapped (pos project.id) ∷ []) (replicate (cells + room) (pos 0))) (λ v. None);
-        same_bits = no_edge-truths (core_code project alone) (first_state project (code_words project alone) (init_start project alone)).code (no_edge h.straight) ∙ sym (ap (λ n. replicate n false) bits_none);
-        holds = λ at c found plain. holds-words (core_code project alone) (drop (0 + length (code_words project alone)) (replicate project.node.code 0)) at c found;
+        same_bits = no_edge-truths (core_code project alone) (code_words project alone ++ behind) (no_edge h.straight) ∙ sym (ap (λ n. replicate n false) bits_none);
+        holds = λ at c found plain. holds-words (core_code project alone) behind at c found;
         same_active = refl;
         same_paused = refl;
       }
 
   -- the machine at its first tick
-  pub first-aligned : IsStraightCore project alone → Aligned alone_program (core_code project alone) (core_weight alone) (started project (code_words project alone)) (core_loaded alone_program)
+  pub first-aligned : IsStraightCore project alone → (m : State) → IsStarted project (code_words project alone) m
+      → Aligned alone_program (core_code project alone) (core_weight alone) m (core_loaded alone_program)
   unfolding core_loaded
-  first-aligned h =
+  first-aligned h m begun =
       let at : ℕ = init_start project alone in
-      let first : State = first_state project (code_words project alone) at in
-      let base : Base alone_program (core_code project alone) (core_weight alone) first (core_loaded alone_program) = first-base h in
+      let behind : List ℕ = drop (length (code_words project alone)) (begun.before).code in
+      let first : State = first_state project (code_words project alone) behind (begun.before).held at in
+      let base : Base alone_program (core_code project alone) (core_weight alone) first (core_loaded alone_program) = first-base h behind (begun.before).held begun.held in
       let reads : Reads alone_program (core_code project alone) (core_weight alone) [] first (core_loaded alone_program) = λ a readable. base.same_cells a (unkept a readable) in
       let placed : Placed alone_program (core_code project alone) (core_weight alone) project.node.stack (core_tasks 0 init ++ finish_core 1 ∷ []) at [] 0 = first-placed h in
       let works : Working alone_program (core_code project alone) (core_weight alone) first (core_loaded alone_program) = record { kept = []; reads = reads; placed = placed; empty = refl; unpaused = refl } in
       let aligned : Aligned alone_program (core_code project alone) (core_weight alone) first (core_loaded alone_program) = record { base = base; works = λ active. works } in
-      subst (λ m. Aligned alone_program (core_code project alone) (core_weight alone) m (core_loaded alone_program)) (sym (first-state h)) aligned
+      subst (λ m. Aligned alone_program (core_code project alone) (core_weight alone) m (core_loaded alone_program)) (sym (first-state m begun)) aligned
     where
       unkept : (a : ℕ) → is_readable alone [] a ≡ true → a < cells
       unkept a readable = by_test (nat_lt a cells) refl (and-right (nat_lt a (cells + room)) (nat_lt a cells || false) readable)

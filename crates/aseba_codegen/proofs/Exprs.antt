@@ -21,7 +21,7 @@ use Rattle.aseba_vm.specs.Tick.{ticked}
 use Rattle.aseba_codegen.specs.declared.coded.Coded.{Coded}
 use Rattle.aseba_codegen.specs.Words.{instruction, twelve_bits, sixteen_bits, large_number_code, expr_code}
 use Rattle.aseba_codegen.specs.Agrees.{line_at}
-use Rattle.aseba_codegen.proofs.TickRows.{put, halted, Ready, small-tick, large-tick, load-tick, load_indirect-tick, load_outside-tick, unary-tick, binary-tick, divide-tick}
+use Rattle.aseba_codegen.proofs.TickRows.{put, halted, Ready, NoCall, no-call, binary-low, small-tick, large-tick, load-tick, load_indirect-tick, load_outside-tick, unary-tick, binary-tick, divide-tick}
 use Rattle.aseba_codegen.proofs.Reach.{Holds, Lined, lined-split, line-of, lined-line, Reaches, one-quiet}
 
 -- what an expression asks of a number of cells: its numbers are cells, and its cells are there
@@ -65,7 +65,7 @@ module _ (code : List Coded) (cells : ℕ) (G : State → Type 0) where
   abbrev pub Goes : (b : ℕ) (m : State) (stack : List ℤ) (line end : ℕ) → Element → Type 0
   Goes b m stack line end (Ok v) = Reaches code cells G b (put m (v ∷ stack) end)
   Goes b m stack line end (Err stop) =
-      (top : List ℤ) (pc : ℕ) → line_at code pc ≡ line → ticked (put m top pc) ≡ (Sent (notice_of pc stop), halted (put m top pc)) → G (put m top pc)
+      (top : List ℤ) (pc : ℕ) → line_at code pc ≡ line → ticked (put m top pc) ≡ (Sent (notice_of pc stop), halted (put m top pc)) → NoCall (put m top pc) → G (put m top pc)
 
   -- a word of the code is ready
   ready-at : (m : State) (stack : List ℤ) (at line w : ℕ) → Runs code m → slice_get code at ≡ Some (record { word = w; line = line; is_edge = false }) → Ready (put m stack at) w
@@ -123,7 +123,8 @@ module _ (code : List Coded) (cells : ℕ) (G : State → Type 0) where
       (subst (λ k. ticked (put m (r ∷ l ∷ stack) at) ≡ (Quiet, put m (v ∷ stack) k)) (sym ends) tick) (next ∙ sym here) go
   operator-run op l r None e m stack at end line b ends runs lined next go =
       let here : line_at code at ≡ line = line-of code at _ lined.0 in
-      inl (go (r ∷ l ∷ stack) at here (divide-tick (put m (r ∷ l ∷ stack) at) op l r stack refl (ready-at m (r ∷ l ∷ stack) at line _ runs lined.0) e))
+      inl (go (r ∷ l ∷ stack) at here (divide-tick (put m (r ∷ l ∷ stack) at) op l r stack refl (ready-at m (r ∷ l ∷ stack) at line _ runs lined.0) e)
+      (no-call (put m (r ∷ l ∷ stack) at) 8 (binary_code op) (binary-low op) (ready-at m (r ∷ l ∷ stack) at line _ runs lined.0) (λ project id. refl)))
 
   right-run : (op : Binary) (l : ℤ) (r : Element) (m : State) (stack : List ℤ) (at end line b : ℕ) → end ≡ at + 1 → Runs code m
       → Lined code line at (instruction 8 (binary_code op) ∷ []) → line_at code end ≡ line
@@ -159,7 +160,8 @@ module _ (code : List Coded) (cells : ℕ) (G : State → Type 0) where
             (subst (λ k. ticked (put m (i ∷ stack) at) ≡ (Quiet, put m (v ∷ stack) k)) (sym ends) tick) (next ∙ sym here) on
         | inr c ↦
             let on : Goes b m stack line end (Err (outside size i)) = subst (λ r. Goes b m stack line end (and_then r cell_at)) c.0 go in
-            inl (on (i ∷ stack) at here (load_outside-tick (put m (i ∷ stack) at) base size i stack low refl (ready-at m (i ∷ stack) at line _ runs lined.0) second c.1))
+            inl (on (i ∷ stack) at here (load_outside-tick (put m (i ∷ stack) at) base size i stack low refl (ready-at m (i ∷ stack) at line _ runs lined.0) second c.1)
+            (no-call (put m (i ∷ stack) at) 5 base low (ready-at m (i ∷ stack) at line _ runs lined.0) (λ project id. refl)))
       ]
 
   -- the code of an expression, from any stack with room

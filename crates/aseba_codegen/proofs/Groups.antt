@@ -2,8 +2,8 @@
 use Rattle.std.proofs.Common.{◌≡◌, ℕ, zero, suc, ◌+◌, ◌-◌, ◌<◌, ◌≤◌, ◌≢◌, inl, inr, ◌&&◌, ◌||◌, max, Bool, true, false, if◌then◌else◌, nat_lt, nat_le, ℤ, pos, List, [], ◌∷◌, ◌++◌, length, map, take, drop, slice_get, slice_index_or, slice_set, slice_range, Option, Some, None, unwrap_or, Result, Ok, Err, refl, sym, ap, ◌∙◌, subst, arith, true≢false, ltb-true, lt-ltb, le-ltb, leb-true, leb-false, eqb-true, replicate, length-append, length-set, get_or-set_same, get_or-set_other}
 use Rattle.std.proofs.lemmas.List.{length-replicate, length-map}
 use Rattle.std.specs.List.{list_all, range_with_len}
-use Rattle.std.specs.Prelude.{option_to_list, nat_eq}
-use Rattle.aseba_tree.specs.Code.{Project, Sized}
+use Rattle.std.specs.Prelude.{option_to_list, option_map, nat_eq}
+use Rattle.aseba_tree.specs.Code.{Name, Project, Sized}
 use Rattle.aseba_tree.specs.Line.{sent, report_by}
 use Rattle.aseba_tree.specs.Value.{Stop, by_zero, outside, Element, and_then, place_among}
 use Rattle.aseba_tree.specs.Step.{applied_cells, stop_report}
@@ -11,6 +11,7 @@ use Rattle.aseba_tree.specs.CoreExpr.{CoreExpr, CoreTarget, into, into_index, co
 use Rattle.aseba_tree.specs.Core.{core_stmt, CoreForm, store, branch, on_edge, loop, send, enter, use_native, go_back}
 use Rattle.aseba_tree.specs.Events.{event_of}
 use Rattle.aseba_tree.specs.CoreStep.{CoreTask, perform_core, leave_core, turn_core, back_core, finish_core, CoreState, CoreProgram, CoreStepped, core_ended, core_stored, core_storing, core_stopped, core_none_held, with_temporary, core_task_done, core_first_done, core_work_line}
+use Rattle.aseba_tree.specs.CoreRun.{call_behind, first_call, work_call}
 use Rattle.aseba_tree.specs.CoreNumbers.{core_form_depth, kept_nodes, own_nodes}
 use Rattle.aseba_tree.specs.CoreShape.{is_readable, is_readable_range, is_indexed, is_good_expr, is_good_target, is_good_form, kept_at, stands_in}
 use Rattle.aseba_tree.specs.Numbers.{nodes, depth}
@@ -19,12 +20,12 @@ use Rattle.aseba_vm.specs.declared.tick.Tick.TheVariants.{Stored, Effect, Sent}
 use Rattle.aseba_vm.specs.declared.tick.Notice.TheVariants.{Emit, Bounds}
 use Rattle.aseba_vm.specs.State.{State, applied, ended}
 use Rattle.aseba_vm.specs.Tick.{ticked}
-use Rattle.aseba_codegen.specs.Table.{is_effect, tick_reports}
+use Rattle.aseba_target.specs.MachineRun.{is_effect, is_error, tick_report}
 use Rattle.aseba_codegen.specs.declared.coded.Coded.{Coded}
 use Rattle.aseba_codegen.specs.Words.{instruction, expr_code, store_code}
-use Rattle.aseba_codegen.specs.Agrees.{line_at, truths, is_error, is_straight_form}
+use Rattle.aseba_codegen.specs.Agrees.{line_at, truths, is_straight_form}
 use Rattle.aseba_tree.specs.CoreCells.{form_has_cells, target_has_cells, has_cells}
-use Rattle.aseba_codegen.proofs.TickRows.{put, halted, stored, Ready, store-tick, store_indirect-tick, store_outside-tick, emit-tick, end-tick}
+use Rattle.aseba_codegen.proofs.TickRows.{put, halted, stored, Ready, NoCall, no-call, store-tick, store_indirect-tick, store_outside-tick, emit-tick, end-tick}
 use Rattle.aseba_codegen.proofs.Reach.{Holds, Lined, lined-split, lined-line, line-of, Same, Hidden, Reaches, reached}
 use Rattle.aseba_codegen.proofs.Exprs.{Sits, notice_of, Runs, Goes, expr-run, place-cases}
 use Rattle.aseba_codegen.proofs.Values.{and-left, and-right, Alike, value-alike, sits, range-alike}
@@ -140,6 +141,34 @@ module _ (program : CoreProgram) (code : List Coded) (weight : ℕ) where
   placed-line limit (turn_core again ∷ rest) at kept weighs h = absurd h
   placed-line limit (back_core line ∷ rest) at kept weighs h = absurd h
 
+  -- Such a work calls no native.
+  temporary-uncalled : (project : Project) (el : Element) (a : ℕ) (cells : List ℤ) (rest : List ℤ → Option Name) → ((after : List ℤ) → rest after ≡ None) → call_behind el a cells rest ≡ None
+  temporary-uncalled project (Err stop) a cells rest none = refl
+  temporary-uncalled project (Ok v) a cells rest none = none (slice_set cells a v)
+
+  store-uncalled : (before line a : ℕ) (e : CoreExpr) (rest : List CoreTask) (cells : List ℤ) (b : Bool) → ((after : List ℤ) → work_call program rest after ≡ None)
+      → first_call program.project (perform_core before (core_stmt line (store (into a) e))) cells (if b then Some (line, a, e) else None) (λ after. work_call program rest after) ≡ None
+  store-uncalled before line a e rest cells true none = temporary-uncalled program.project (core_value cells e) a cells (λ after. work_call program rest after) none
+  store-uncalled before line a e rest cells false none = refl
+
+  pub placed-uncalled : (limit : ℕ) (work : List CoreTask) (at : ℕ) (kept : List ℕ) (weighs : ℕ) (cells : List ℤ) → Placed limit work at kept weighs → work_call program work cells ≡ None
+  placed-uncalled limit [] at kept weighs cells h = absurd h
+  placed-uncalled limit (perform_core before (core_stmt line (store (into a) e)) ∷ rest) at kept weighs cells h =
+      store-uncalled before line a e rest cells (nat_le program.core.cells a)
+      (λ after. placed-uncalled limit rest (at + length (straight_words (store (into a) e))) (option_to_list (kept_at program.core (store (into a) e)) ++ kept) (heavier (kept_nodes program.core.cells (store (into a) e)) weighs) after h.2)
+  placed-uncalled limit (perform_core before (core_stmt line (store (into_index base size i) e)) ∷ rest) at kept weighs cells h = refl
+  placed-uncalled limit (perform_core before (core_stmt line (send event address count)) ∷ rest) at kept weighs cells h = refl
+  placed-uncalled limit (perform_core before (core_stmt line (branch c body other)) ∷ rest) at kept weighs cells h = refl
+  placed-uncalled limit (perform_core before (core_stmt line (on_edge c body)) ∷ rest) at kept weighs cells h = refl
+  placed-uncalled limit (perform_core before (core_stmt line (loop c body)) ∷ rest) at kept weighs cells h = refl
+  placed-uncalled limit (perform_core before (core_stmt line (enter which)) ∷ rest) at kept weighs cells h = refl
+  placed-uncalled limit (perform_core before (core_stmt line (use_native id values)) ∷ rest) at kept weighs cells h = absurd (true≢false (sym (h.0).straight))
+  placed-uncalled limit (perform_core before (core_stmt line go_back) ∷ rest) at kept weighs cells h = refl
+  placed-uncalled limit (finish_core line ∷ rest) at kept weighs cells h = refl
+  placed-uncalled limit (leave_core line ∷ rest) at kept weighs cells h = refl
+  placed-uncalled limit (turn_core again ∷ rest) at kept weighs cells h = refl
+  placed-uncalled limit (back_core line ∷ rest) at kept weighs cells h = refl
+
   -- a machine at the start of a statement, with nothing on the stack
   pub record Working (m : State) (s : CoreState) : Type 0 where
     pub kept : List ℕ
@@ -156,16 +185,18 @@ module _ (program : CoreProgram) (code : List Coded) (weight : ℕ) where
   pub record Lands (after : CoreStepped) (m : State) : Type 0 where
     pub counts : is_effect program.core.cells (ticked m).0 ≡ true
     pub sound : is_error (ticked m).0 ≡ false
-    pub told : map (report_by (line_at code)) (tick_reports program.project ((ticked m).1).cells (ticked m).0) ≡ option_to_list after.report
+    pub told : option_map (report_by (line_at code)) (tick_report program.project ((ticked m).1).cells (ticked m).0) ≡ after.report
+    pub uncalled : NoCall m
     pub next : Aligned (ticked m).1 after.state
 
   -- a tick with what it is and leaves
   lands-by : (after : CoreStepped) (m n : State) (tick : Tick) → ticked m ≡ (tick, n) → is_effect program.core.cells tick ≡ true → is_error tick ≡ false
-      → map (report_by (line_at code)) (tick_reports program.project n.cells tick) ≡ option_to_list after.report → Aligned n after.state → Lands after m
-  lands-by after m n tick e counts sound told next = record {
+      → option_map (report_by (line_at code)) (tick_report program.project n.cells tick) ≡ after.report → NoCall m → Aligned n after.state → Lands after m
+  lands-by after m n tick e counts sound told uncalled next = record {
     counts = subst (λ (r : Tick × State). is_effect program.core.cells r.0 ≡ true) (sym e) counts;
     sound = subst (λ (r : Tick × State). is_error r.0 ≡ false) (sym e) sound;
-    told = subst (λ (r : Tick × State). map (report_by (line_at code)) (tick_reports program.project (r.1).cells r.0) ≡ option_to_list after.report) (sym e) told;
+    told = subst (λ (r : Tick × State). option_map (report_by (line_at code)) (tick_report program.project (r.1).cells r.0) ≡ after.report) (sym e) told;
+    uncalled = uncalled;
     next = subst (λ (r : Tick × State). Aligned r.1 after.state) (sym e) next;
   }
 
@@ -229,16 +260,16 @@ module _ (program : CoreProgram) (code : List Coded) (weight : ℕ) where
 
   -- a stop on a line
   stop-lands : (stop : Stop) (m : State) (t : CoreState) (stack : List ℤ) (pc line : ℕ) → Base m t → line_at code pc ≡ line → ticked (put m stack pc) ≡ (Sent (notice_of pc stop), halted (put m stack pc))
-      → Lands (core_stopped line t stop) (put m stack pc)
-  stop-lands stop m t stack pc line base on_it tick =
+      → NoCall (put m stack pc) → Lands (core_stopped line t stop) (put m stack pc)
+  stop-lands stop m t stack pc line base on_it tick uncalled =
       let after : Base (halted (put m stack pc)) (record (core_ended t) { paused = true }) = halted-base (put m stack pc) t (put-base m t stack pc t.work base) in
-      lands-by (core_stopped line t stop) (put m stack pc) (halted (put m stack pc)) (Sent (notice_of pc stop)) tick refl (quiet stop) (same stop) (idle _ _ after refl)
+      lands-by (core_stopped line t stop) (put m stack pc) (halted (put m stack pc)) (Sent (notice_of pc stop)) tick refl (quiet stop) (same stop) uncalled (idle _ _ after refl)
     where
       quiet : (s : Stop) → is_error (Sent (notice_of pc s)) ≡ false
       quiet by_zero = refl
       quiet (outside size i) = refl
 
-      same : (s : Stop) → map (report_by (line_at code)) (tick_reports program.project (halted (put m stack pc)).cells (Sent (notice_of pc s))) ≡ stop_report line s ∷ []
+      same : (s : Stop) → option_map (report_by (line_at code)) (tick_report program.project (halted (put m stack pc)).cells (Sent (notice_of pc s))) ≡ Some (stop_report line s)
       same by_zero = rw on_it refl
       same (outside size i) = rw on_it refl
 
@@ -311,7 +342,7 @@ module _ (program : CoreProgram) (code : List Coded) (weight : ℕ) where
   variable-after : (el : Element) (rest : List CoreTask) (m : State) (t : CoreState) (at line a b : ℕ) (kept : List ℕ) → a < program.core.cells → Going m t kept
       → Lined code line at (instruction 4 a ∷ []) → Placed m.shape.stack rest (at + 1) kept 0
       → Goes code program.core.cells (Lands (core_storing line (record t { work = rest }) el (Ok a))) b m [] line at el
-  variable-after (Err stop) rest m t at line a b kept inside g lined placed = λ top pc on_it tick. stop-lands stop m (record t { work = rest }) top pc line (put-base m t m.stack m.pc rest g.base) on_it tick
+  variable-after (Err stop) rest m t at line a b kept inside g lined placed = λ top pc on_it tick uncalled. stop-lands stop m (record t { work = rest }) top pc line (put-base m t m.stack m.pc rest g.base) on_it tick uncalled
   variable-after (Ok v) rest m t at line a b kept inside g lined placed =
       let in_room : a < program.core.cells + program.core.room = omega arith in
       let in_m : a < length m.cells = let l = g.base.long in omega arith in
@@ -322,13 +353,14 @@ module _ (program : CoreProgram) (code : List Coded) (weight : ℕ) where
         works = λ active. record { kept = kept; reads = kept-reads m t a v kept inside g.base g.reads; placed = placed; empty = refl; unpaused = g.unpaused };
       } in
       reached code program.core.cells (Lands (core_storing line (record t { work = rest }) (Ok v) (Ok a))) b (put m (v ∷ []) at)
-      (lands-by (core_storing line (record t { work = rest }) (Ok v) (Ok a)) (put m (v ∷ []) at) (stored m a v [] (at + 1)) (Stored a) tick (lt-ltb _ _ inside) refl refl next)
+      (lands-by (core_storing line (record t { work = rest }) (Ok v) (Ok a)) (put m (v ∷ []) at) (stored m a v [] (at + 1)) (Stored a) tick (lt-ltb _ _ inside) refl refl
+      (no-call (put m (v ∷ []) at) 4 a low (ready m t kept (v ∷ []) at line _ g lined.0) (λ project id. refl)) next)
 
   -- behind the expression of a store into a temporary
   temporary-after : (el : Element) (rest : List CoreTask) → RunsUp rest → (m : State) (t : CoreState) (at line a b weighs : ℕ) (kept : List ℕ) → program.core.cells ≤ a → a < program.core.cells + program.core.room → Going m t kept
       → Lined code line at (instruction 4 a ∷ []) → Placed m.shape.stack rest (at + 1) (a ∷ kept) weighs → core_work_line rest ≡ line → weighs + b + 1 ≡ weight
       → Goes code program.core.cells (Lands (with_temporary line t a el (λ u. core_first_done program u rest))) (suc b) m [] line at el
-  temporary-after (Err stop) rest onward m t at line a b weighs kept above inside g lined placed on_line total = λ top pc on_it tick. stop-lands stop m t top pc line g.base on_it tick
+  temporary-after (Err stop) rest onward m t at line a b weighs kept above inside g lined placed on_line total = λ top pc on_it tick uncalled. stop-lands stop m t top pc line g.base on_it tick uncalled
   temporary-after (Ok v) rest onward m t at line a b weighs kept above inside g lined placed on_line total =
       let G : State → Type 0 = Lands (core_first_done program (core_stored t a v) rest) in
       let in_m : a < length m.cells = let l = g.base.long in omega arith in
@@ -403,7 +435,7 @@ module _ (program : CoreProgram) (code : List Coded) (weight : ℕ) where
   index-after : (el : Element) (rest : List CoreTask) (m : State) (t : CoreState) (v : ℤ) (at line base size b : ℕ) (kept : List ℕ) → base + size ≤ program.core.cells → base < 4096 → Going m t kept
       → Lined code line at (instruction 6 base ∷ size ∷ []) → Placed m.shape.stack rest (at + 2) kept 0
       → Goes code program.core.cells (Lands (core_storing line (record t { work = rest }) (Ok v) (and_then el (λ i. and_then (place_among size i) (λ place. Ok (base + place)))))) b m (v ∷ []) line at el
-  index-after (Err stop) rest m t v at line base size b kept inside low g lined placed = λ top pc on_it tick. stop-lands stop m (record t { work = rest }) top pc line (put-base m t m.stack m.pc rest g.base) on_it tick
+  index-after (Err stop) rest m t v at line base size b kept inside low g lined placed = λ top pc on_it tick uncalled. stop-lands stop m (record t { work = rest }) top pc line (put-base m t m.stack m.pc rest g.base) on_it tick uncalled
   index-after (Ok i) rest m t v at line base size b kept inside low g lined placed =
       let here : line_at code at ≡ line = line-of code at _ lined.0 in
       let second : slice_get m.code (at + 1) ≡ Some size = g.base.holds (at + 1) _ lined.1.0 refl in
@@ -422,11 +454,13 @@ module _ (program : CoreProgram) (code : List Coded) (weight : ℕ) where
               base = stored-base m t [] (at + 2) a v rest in_room g.base;
               works = λ active. record { kept = kept; reads = kept-reads m t a v kept within g.base g.reads; placed = placed; empty = refl; unpaused = g.unpaused };
             } in
-            let lands : G (Ok c.0) (put m top at) = lands-by (core_storing line r (Ok v) (Ok a)) (put m top at) (stored m a v [] (at + 2)) (Stored a) tick (lt-ltb _ _ within) refl refl next in
+            let lands : G (Ok c.0) (put m top at) = lands-by (core_storing line r (Ok v) (Ok a)) (put m top at) (stored m a v [] (at + 2)) (Stored a) tick (lt-ltb _ _ within) refl refl
+            (no-call (put m top at) 6 base low (ready m t kept top at line _ g lined.0) (λ project id. refl)) next in
             reached code program.core.cells (G (place_among size i)) b (put m top at) (subst (λ p. G p (put m top at)) (sym c.1) lands)
         | inr c ↦
             let tick : ticked (put m top at) ≡ (Sent (Bounds at size i), halted (put m top at)) = store_outside-tick (put m top at) base size v i [] low refl (ready m t kept top at line _ g lined.0) second c.1 in
-            let lands : G (Err (outside size i)) (put m top at) = stop-lands (outside size i) m r top at line (put-base m t m.stack m.pc rest g.base) here tick in
+            let lands : G (Err (outside size i)) (put m top at) = stop-lands (outside size i) m r top at line (put-base m t m.stack m.pc rest g.base) here tick
+            (no-call (put m top at) 6 base low (ready m t kept top at line _ g lined.0) (λ project id. refl)) in
             reached code program.core.cells (G (place_among size i)) b (put m top at) (subst (λ p. G p (put m top at)) (sym c.0) lands)
       ]
 
@@ -435,7 +469,7 @@ module _ (program : CoreProgram) (code : List Coded) (weight : ℕ) where
       → Base m t
       → ((v : ℤ) → Reaches code program.core.cells (Lands (core_storing line (record t { work = rest }) (Ok v) index)) b (put m (v ∷ []) at))
       → Goes code program.core.cells (Lands (core_storing line (record t { work = rest }) el index)) b m [] line at el
-  value-after (Err stop) index rest m t at line b base onward = λ top pc on_it tick. stop-lands stop m (record t { work = rest }) top pc line (put-base m t m.stack m.pc rest base) on_it tick
+  value-after (Err stop) index rest m t at line b base onward = λ top pc on_it tick uncalled. stop-lands stop m (record t { work = rest }) top pc line (put-base m t m.stack m.pc rest base) on_it tick uncalled
   value-after (Ok v) index rest m t at line b base onward = onward v
 
   index-run : (before line base size : ℕ) (i e : CoreExpr) (rest : List CoreTask)
@@ -505,7 +539,8 @@ module _ (program : CoreProgram) (code : List Coded) (weight : ℕ) where
         works = λ active. record { kept = kept; reads = g.reads; placed = placed; empty = refl; unpaused = g.unpaused };
       } in
       reached code program.core.cells (Lands after) n (put m [] at)
-      (lands-by after (put m [] at) (put m [] (at + 3)) (Sent (Emit event address count)) tick refl refl (rw cells refl) next)
+      (lands-by after (put m [] at) (put m [] (at + 3)) (Sent (Emit event address count)) tick refl refl (rw cells refl)
+      (no-call (put m [] at) 11 event (omega arith) (ready m t kept [] at line _ g (fits.stands).0) (λ project id. refl)) next)
 
   finish-run : (line : ℕ) (rest : List CoreTask) (m : State) (t : CoreState) (at : ℕ) (kept : List ℕ) (n : ℕ) → Lined code line at (instruction 0 0 ∷ []) → Going m t kept
       → Reaches code program.core.cells (Lands (record { state = core_ended (record t { work = rest }); report = None })) n (put m [] at)
@@ -515,7 +550,8 @@ module _ (program : CoreProgram) (code : List Coded) (weight : ℕ) where
       let tick : ticked (put m [] at) ≡ (Effect, ended (put m [] at)) = end-tick (put m [] at) (ready m t kept [] at line _ g lined.0) in
       let after : CoreStepped = record { state = core_ended r; report = None } in
       reached code program.core.cells (Lands after) n (put m [] at)
-      (lands-by after (put m [] at) (ended (put m [] at)) Effect tick refl refl refl (idle (ended (put m [] at)) (core_ended r) base refl))
+      (lands-by after (put m [] at) (ended (put m [] at)) Effect tick refl refl refl
+      (no-call (put m [] at) 0 0 (omega arith) (ready m t kept [] at line _ g lined.0) (λ project id. refl)) (idle (ended (put m [] at)) (core_ended r) base refl))
 
   pub group-run : length program.project.events ≤ 4096 → (work : List CoreTask) → RunsUp work
   group-run events [] m t at kept weighs n placed total g = absurd placed

@@ -6,7 +6,7 @@ use Rattle.aseba_vm.specs.declared.tick.Tick.{Tick}
 use Rattle.aseba_vm.specs.declared.tick.Tick.TheVariants.{Quiet}
 use Rattle.aseba_vm.specs.State.{State}
 use Rattle.aseba_vm.specs.Tick.{ticked}
-use Rattle.aseba_codegen.specs.Table.{is_effect}
+use Rattle.aseba_target.specs.MachineRun.{is_effect}
 use Rattle.aseba_codegen.specs.declared.coded.Coded.{Coded}
 use Rattle.aseba_codegen.specs.Words.{on_line}
 use Rattle.aseba_codegen.specs.Agrees.{line_at}

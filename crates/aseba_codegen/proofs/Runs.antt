@@ -1,39 +1,48 @@
 -- The runs of straight code and of its core, tick by tick.
-use Rattle.std.proofs.Common.{◌≡◌, ℕ, zero, suc, ◌+◌, ◌-◌, ◌<◌, ◌≤◌, ◌⊎◌, inl, inr, ◌||◌, not, Bool, true, false, if◌then◌else◌, ℤ, pos, List, [], ◌∷◌, ◌++◌, length, map, take, drop, slice_index_or, None, refl, sym, ap, ◌∙◌, subst, arith, true≢false, append-nil, ext_get_or, get_or-take, length-take-le}
-use Rattle.std.proofs.lemmas.List.{map-append}
-use Rattle.std.specs.List.{list_all, list_any}
-use Rattle.std.specs.Prelude.{option_to_list}
-use Rattle.aseba_tree.specs.Code.{Project, Sized}
-use Rattle.aseba_tree.specs.Line.{Report, report_by, told, line_by}
+use Rattle.std.proofs.Common.{◌≡◌, ℕ, zero, suc, ◌+◌, ◌-◌, ◌<◌, ◌≤◌, inl, inr, ◌&&◌, not, Bool, true, false, if◌then◌else◌, ℤ, pos, List, [], ◌∷◌, length, map, take, drop, slice_index_or, Option, None, refl, sym, ap, ◌∙◌, subst, arith, true≢false, All, ext_get_or, get_or-take, length-take-le}
+use Rattle.std.proofs.lemmas.List.{drop-map}
+use Rattle.std.proofs.lemmas.List.Sums.{sum_by-cons}
+use Rattle.std.specs.List.{list_all}
+use Rattle.std.specs.Prelude.{option_map, sum_by}
+use Rattle.aseba_tree.specs.Code.{Name, Project, Sized}
+use Rattle.aseba_tree.specs.Line.{report_by}
+use Rattle.aseba_tree.specs.Script.{Action, Script, actions_at}
+use Rattle.aseba_tree.specs.Layout.{Placed, placed_from, cells_at}
 use Rattle.aseba_tree.specs.Core.{CoreStmts, CorePart, Core}
 use Rattle.aseba_tree.specs.CoreNumbers.{core_weight}
 use Rattle.aseba_tree.specs.CoreStep.{CoreProgram, CoreState, CoreStepped, core_is_running, core_first_done, core_step, core_loaded, core_next_line}
+use Rattle.aseba_tree.specs.CoreRun.{core_tick, core_next_native, core_system, core_run, core_moments, own_places, work_call}
+use Rattle.aseba_tree.specs.Run as one_run
+use Rattle.aseba_tree.specs.Run.{Run, Moment, begin, ticking, moments_from, ticks, HasNoError}
+use Rattle.aseba_tree.specs.Tied as tie
+use Rattle.aseba_tree.specs.Tied.{TickedWithin, TiedWithin, Somehow}
+use Rattle.aseba_tree.proofs.RunLaws.{runs_alike}
+use Rattle.aseba_tree.proofs.PaceLaws.{tied_somehow, paced}
 use Rattle.aseba_vm.specs.declared.tick.Tick.{Tick}
 use Rattle.aseba_vm.specs.declared.tick.Tick.TheVariants.{Idle, Paused, Quiet, Stored, Effect, Sent}
 use Rattle.aseba_vm.specs.State.{State}
 use Rattle.aseba_vm.specs.Tick.{ticked}
 use Rattle.aseba_vm.proofs.Ticks.{ticked-idle}
-use Rattle.aseba_codegen.specs.Table.{Layout, Run, is_effect, tick_reports, ticking, all_ticking, beginning, started, beats_from, table_beats}
+use Rattle.aseba_target.specs.Node.{Layout, IsStarted}
+use Rattle.aseba_target.specs.MachineRun.{is_effect, is_error, tick_report, is_running, next_call, machine_system, machine_run, machine_moments, machine_beats}
 use Rattle.aseba_codegen.specs.declared.coded.Coded.{Coded}
 use Rattle.aseba_codegen.specs.Words.{core_code, code_words}
-use Rattle.aseba_codegen.specs.CoreRun.{CoreRun, core_ticking, core_all_ticking, core_begin_of, CoreMoment, core_moments_from, is_one_core_handler}
-use Rattle.aseba_codegen.specs.Agrees.{IsStraightCore, IsNode, line_at, is_error, errors_from, Seen, RunsAlike, StraightCodeRuns}
-use Rattle.aseba_codegen.proofs.BeatLaws.{beats_are_ticks}
+use Rattle.aseba_codegen.specs.Agrees.{IsStraightCore, IsNode, IsLaidOut, line_at, words_of, Seen, RunsAlike, StraightCodeRuns}
 use Rattle.aseba_codegen.proofs.TickRows.{put}
 use Rattle.aseba_codegen.proofs.Reach.{Same, Hidden, Reaches}
-use Rattle.aseba_codegen.proofs.Values.{and-left, and-right, and-both}
+use Rattle.aseba_codegen.proofs.Values.{and-left, and-both}
 use Rattle.aseba_codegen.proofs.Placing.{weight-least}
-use Rattle.aseba_codegen.proofs.Groups.{Base, Working, Aligned, Lands, Going, placed-line, group-run}
+use Rattle.aseba_codegen.proofs.Groups.{Base, Working, Aligned, Lands, Going, placed-line, placed-uncalled, group-run}
 use Rattle.aseba_codegen.proofs.Begin.{alone, alone_program, first-aligned}
 
 -- a tick without an effect tells nothing
-silent-reports : (project : Project) (cells : List ℤ) (n : ℕ) (tick : Tick) → is_effect n tick ≡ false → tick_reports project cells tick ≡ []
-silent-reports project cells n Idle h = refl
-silent-reports project cells n Paused h = refl
-silent-reports project cells n Quiet h = refl
-silent-reports project cells n (Stored address) h = refl
-silent-reports project cells n Effect h = refl
-silent-reports project cells n (Sent notice) h = absurd (true≢false h)
+silent-report : (project : Project) (cells : List ℤ) (n : ℕ) (tick : Tick) → is_effect n tick ≡ false → tick_report project cells tick ≡ None
+silent-report project cells n Idle h = refl
+silent-report project cells n Paused h = refl
+silent-report project cells n Quiet h = refl
+silent-report project cells n (Stored address) h = refl
+silent-report project cells n Effect h = refl
+silent-report project cells n (Sent notice) h = absurd (true≢false h)
 
 silent-sound : (n : ℕ) (tick : Tick) → is_effect n tick ≡ false → is_error tick ≡ false
 silent-sound n Idle h = refl
@@ -43,17 +52,32 @@ silent-sound n (Stored address) h = refl
 silent-sound n Effect h = refl
 silent-sound n (Sent notice) h = absurd (true≢false h)
 
-now-or-later : (x y : Bool) → (x ≡ false → y ≡ true) → (x || y) ≡ true
-now-or-later true y h = refl
-now-or-later false y h = h refl
+if-none : {A : Type 0} (b : Bool) (x : Option A) → (b ≡ true → x ≡ None) → (if b then x else None) ≡ None
+if-none true x h = h refl
+if-none false x h = refl
 
--- lines are told alike where their reports are
-told-alike : (f : ℕ → ℕ) (t k : ℕ) (reports others : List Report) → map (report_by f) reports ≡ others → map (line_by f) (map (told t k) reports) ≡ map (told t k) others
-told-alike f t k reports others h = each reports ∙ ap (map (told t k)) h
-  where
-    each : (xs : List Report) → map (line_by f) (map (told t k) xs) ≡ map (told t k) (map (report_by f) xs)
-    each [] = refl
-    each (x ∷ xs) = ap (λ rest. told t k (report_by f x) ∷ rest) (each xs)
+-- What is shown
+
+-- a piece of a list inside its first part
+piece-inside : (c k n : ℕ) (xs : List ℤ) → k + n ≤ c → take n (drop k (take c xs)) ≡ take n (drop k xs)
+piece-inside c zero zero xs h = refl
+piece-inside zero zero (suc n) xs h = absurd (omega arith)
+piece-inside (suc c) zero (suc n) [] h = refl
+piece-inside (suc c) zero (suc n) (x ∷ xs) h = ap (λ rest. x ∷ rest) (piece-inside c zero n xs (omega arith))
+piece-inside zero (suc k) n xs h = absurd (omega arith)
+piece-inside (suc c) (suc k) n [] h = refl
+piece-inside (suc c) (suc k) n (x ∷ xs) h = piece-inside c k n xs (omega arith)
+
+-- memories that are alike in their first cells show the same of the variables there
+shown-alike : (xs ys : List ℤ) (c start : ℕ) (vs : List Sized) → take c xs ≡ take c ys → start + sum_by (λ v. v.size) vs ≤ c → cells_at xs (placed_from start vs) ≡ cells_at ys (placed_from start vs)
+shown-alike xs ys c start [] same inside = refl
+shown-alike xs ys c start (v ∷ vs) same inside =
+    let sums = sum_by-cons (λ (s : Sized). s.size) v vs in
+    let here : start + v.size ≤ c = omega (arith, inside, sums) in
+    let there : start + v.size + sum_by (λ s. s.size) vs ≤ c = omega (arith, inside, sums) in
+    let piece : take v.size (drop start xs) ≡ take v.size (drop start ys) =
+    sym (piece-inside c start v.size xs here) ∙ ap (λ zs. take v.size (drop start zs)) same ∙ piece-inside c start v.size ys here in
+    λ i. (v.name, piece i) ∷ shown-alike xs ys c (start + v.size) vs same there i
 
 taken-alike : {X : Type 0} (d : X) (n : ℕ) (xs ys : List X) → n ≤ length xs → n ≤ length ys → ((a : ℕ) → a < n → slice_index_or xs a d ≡ slice_index_or ys a d) → take n xs ≡ take n ys
 taken-alike d n xs ys in_x in_y h =
@@ -103,250 +127,188 @@ module _ (program : CoreProgram) (code : List Coded) (weight : ℕ) (layout : La
     same_paused = k.paused ∙ h.same_paused;
   }
 
-  -- a run of the machine and one of the core, with the next step at most so many ticks away
-  pub record Along (b : ℕ) (r : Run) (c : CoreRun) : Type 0 where
-    pub ticks : r.ticks ≡ c.ticks
-    pub effects : r.effects ≡ c.steps
-    pub lines : map (line_by (line_at code)) r.lines ≡ c.lines
-    pub base : Base program code weight r.machine c.state
-    pub on_line : (c.state).active ≡ true → line_at code (r.machine).pc ≡ core_next_line c.state
-    pub unpaused : (c.state).active ≡ true → (c.state).paused ≡ false
-    pub ahead : (c.state).active ≡ true → Ahead b r.machine c.state
+  -- machine and core at a moment, with the next step at most so many ticks away
+  pub record Near (b : ℕ) (m : State) (s : CoreState) : Type 0 where
+    pub base : Base program code weight m s
+    pub on_line : s.active ≡ true → line_at code m.pc ≡ core_next_line s
+    pub unpaused : s.active ≡ true → s.paused ≡ false
+    pub ahead : s.active ≡ true → Ahead b m s
+    pub uncalled : core_next_native program s ≡ None
+    pub small : b < weight
 
-  -- a tick that is a step, one that isn't but of a handler, and one without a handler
-  pub record Counted (r : Run) (c : CoreRun) : Type 0 where
-    pub beat : is_effect cells (ticked r.machine).0 ≡ true
-    pub runs : core_is_running c.state ≡ true
-    pub sound : is_error (ticked r.machine).0 ≡ false
-    pub next : Along (weight - 1) (ticking program.project layout [] r) (core_ticking program [] c true)
+  -- from the start of a statement on
+  pub aligned-near : length program.project.events ≤ 4096 → 3 ≤ weight → (m : State) (s : CoreState) → Aligned program code weight m s → Near (weight - 1) m s
+  aligned-near events heavy m s aligned = record {
+    base = aligned.base;
+    on_line = λ on. let w : Working program code weight m s = aligned.works on in placed-line program code weight (m.shape).stack s.work m.pc w.kept 0 w.placed;
+    unpaused = λ on. let w : Working program code weight m s = aligned.works on in sym (aligned.base).same_paused ∙ w.unpaused;
+    ahead = λ on. aligned-ahead events heavy m s aligned on;
+    uncalled = if-none (core_is_running s) (work_call program s.work s.cells) (λ runs.
+        let w : Working program code weight m s = aligned.works (and-left s.active (not s.paused) runs) in placed-uncalled program code weight (m.shape).stack s.work m.pc w.kept 0 s.cells w.placed);
+    small = omega arith;
+  }
 
-  pub record Waited (b : ℕ) (r : Run) (c : CoreRun) : Type 0 where
-    pub less : ℕ
-    pub counts : b ≡ suc less
-    pub beat : is_effect cells (ticked r.machine).0 ≡ false
-    pub runs : core_is_running c.state ≡ true
-    pub sound : is_error (ticked r.machine).0 ≡ false
-    pub next : Along less (ticking program.project layout [] r) (core_ticking program [] c false)
+  machine-runs : (m : State) (s : CoreState) → Base program code weight m s → is_running m ≡ core_is_running s
+  machine-runs m s base = λ i. base.same_active i && not (base.same_paused i)
 
-  pub record Rested (b : ℕ) (r : Run) (c : CoreRun) : Type 0 where
-    pub beat : is_effect cells (ticked r.machine).0 ≡ false
-    pub rests : core_is_running c.state ≡ false
-    pub sound : is_error (ticked r.machine).0 ≡ false
-    pub next : Along b (ticking program.project layout [] r) (core_ticking program [] c false)
+  runs-now : (b : ℕ) (m : State) (s : CoreState) → Near b m s → s.active ≡ true → is_running m ≡ true
+  runs-now b m s r active = let unpaused : s.paused ≡ false = r.unpaused active in machine-runs m s r.base ∙ rw (active, unpaused) refl
 
-  abbrev pub OneTick : ℕ → Run → CoreRun → Type 0
-  OneTick b r c = Counted r c ⊎ (Waited b r c ⊎ Rested b r c)
+  abbrev f : ℕ → ℕ
+  f = line_at code
 
-  counted : (events : length program.project.events ≤ 4096) → 3 ≤ weight → layout.cells ≡ cells → (b : ℕ) (r : Run) (c : CoreRun) → Along b r c → (c.state).active ≡ true
-      → Lands program code weight (core_step program c.state) r.machine → Counted r c
-  counted events heavy same b r c along active lands =
-      let m : State = r.machine in
-      let after : CoreStepped = core_step program c.state in
-      let tick : Tick = (ticked m).0 in
-      let paused_not : (c.state).paused ≡ false = along.unpaused active in
-      let running : core_is_running c.state ≡ true = rw (active, paused_not) refl in
-      let beat : is_effect layout.cells tick ≡ true = ap (λ n. is_effect n tick) same ∙ lands.counts in
-      let more : r.effects + (if is_effect layout.cells tick then 1 else 0) ≡ suc c.steps = rw beat (let e = along.effects in omega arith) in
-      let reports : List Report = tick_reports program.project ((ticked m).1).cells tick in
-      let told_too : map (line_by (line_at code)) (map (told r.ticks (r.effects + (if is_effect layout.cells tick then 1 else 0))) reports) ≡ map (told c.ticks (suc c.steps)) (option_to_list after.report) =
-      rw (more, along.ticks) (told-alike (line_at code) c.ticks (suc c.steps) reports (option_to_list after.report) lands.told) in
-      record {
-        beat = lands.counts;
-        runs = running;
-        sound = lands.sound;
-        next = record {
-          ticks = ap suc along.ticks;
-          effects = more;
-          lines = map-append (line_by (line_at code)) r.lines (map (told r.ticks (r.effects + (if is_effect layout.cells tick then 1 else 0))) reports) ∙ ap (λ xs. xs ++ map (line_by (line_at code)) (map (told r.ticks (r.effects + (if is_effect layout.cells tick then 1 else 0))) reports)) along.lines ∙ ap (λ xs. c.lines ++ xs) told_too;
-          base = (lands.next).base;
-          on_line = λ on. let works : Working program code weight (ticked m).1 after.state = (lands.next).works on in
-              placed-line program code weight (((ticked m).1).shape).stack (after.state).work ((ticked m).1).pc works.kept 0 works.placed;
-          unpaused = λ on. let works : Working program code weight (ticked m).1 after.state = (lands.next).works on in sym ((lands.next).base).same_paused ∙ works.unpaused;
-          ahead = λ on. aligned-ahead events heavy (ticked m).1 after.state lands.next on;
-        };
-      }
+  abbrev one : one_run.System State
+  one = machine_system program.project layout
 
-  quiet-next : (layout.cells ≡ cells) → (b k : ℕ) (r : Run) (c : CoreRun) → Along b r c → is_effect cells (ticked r.machine).0 ≡ false
-      → Base program code weight (ticked r.machine).1 c.state
-      → ((c.state).active ≡ true → line_at code ((ticked r.machine).1).pc ≡ core_next_line c.state)
-      → ((c.state).active ≡ true → Ahead k (ticked r.machine).1 c.state)
-      → Along k (ticking program.project layout [] r) (core_ticking program [] c false)
-  quiet-next same b k r c along silent base on_line ahead =
-      let m : State = r.machine in
-      let tick : Tick = (ticked m).0 in
-      let beat : is_effect layout.cells tick ≡ false = ap (λ n. is_effect n tick) same ∙ silent in
-      let as_many : r.effects + (if is_effect layout.cells tick then 1 else 0) ≡ c.steps = rw beat (let e = along.effects in omega arith) in
-      let nothing : tick_reports program.project ((ticked m).1).cells tick ≡ [] = silent-reports program.project ((ticked m).1).cells cells tick silent in
-      record {
-        ticks = ap suc along.ticks;
-        effects = as_many;
-        lines = rw nothing (ap (map (line_by (line_at code))) (append-nil r.lines) ∙ along.lines);
-        base = base;
-        on_line = on_line;
-        unpaused = along.unpaused;
-        ahead = ahead;
-      }
+  abbrev two : one_run.System CoreState
+  two = core_system program
 
-  waited : layout.cells ≡ cells → (b : ℕ) (r : Run) (c : CoreRun) → Along (suc b) r c → (c.state).active ≡ true → Hidden code cells r.machine → Ahead b (ticked r.machine).1 c.state → Waited (suc b) r c
-  waited same b r c along active hidden rest =
-      let paused_not : (c.state).paused ≡ false = along.unpaused active in
-      record {
-        less = b;
-        counts = refl;
-        beat = hidden.silent;
-        runs = rw (active, paused_not) refl;
-        sound = silent-sound cells (ticked r.machine).0 hidden.silent;
-        next = quiet-next same (suc b) b r c along hidden.silent (same-base r.machine (ticked r.machine).1 c.state along.base hidden.same)
-            (λ on. (hidden.same).line ∙ along.on_line on) (λ on. rest);
-      }
+  -- there are no actions, and nothing is asked of natives
+  abbrev Good : Action → Type 0
+  Good action = ⊥
 
-  running-tick : (events : length program.project.events ≤ 4096) → 3 ≤ weight → layout.cells ≡ cells → (b : ℕ) (r : Run) (c : CoreRun) → Along b r c → (c.state).active ≡ true → Ahead b r.machine c.state → OneTick b r c
-  running-tick events heavy same zero r c along active ahead = inl (counted events heavy same zero r c along active ahead)
-  running-tick events heavy same (suc b) r c along active ahead =
-      elim ahead [ inl lands ↦ inl (counted events heavy same (suc b) r c along active lands) | inr h ↦ inr (inl (waited same b r c along active h.0 h.1)) ]
+  abbrev Known : Name → Type 0
+  Known name = Unit {0}
 
-  resting-tick : layout.cells ≡ cells → (b : ℕ) (r : Run) (c : CoreRun) → Along b r c → (c.state).active ≡ false → Rested b r c
-  resting-tick same b r c along rests =
-      let idle : (r.machine).active ≡ false = (along.base).same_active ∙ rests in
-      let tick : ticked r.machine ≡ (Idle, r.machine) = ticked-idle r.machine idle in
-      let silent : is_effect cells (ticked r.machine).0 ≡ false = ap (λ (x : Tick × State). is_effect cells x.0) tick in
-      record {
-        beat = silent;
-        rests = rw rests refl;
-        sound = ap (λ (x : Tick × State). is_error x.0) tick;
-        next = quiet-next same b b r c along silent (subst (λ (x : Tick × State). Base program code weight x.1 c.state) (sym tick) along.base)
-            (λ on. absurd (true≢false (sym on ∙ rests))) (λ on. absurd (true≢false (sym on ∙ rests)));
-      }
+  -- a tick, where it is known whether it is an effect
+  abbrev Ticks : ℕ → State → CoreState → Bool → Type 0
+  Ticks b m s x = TickedWithin Good Known f one two Near b (is_running m)
+      (record { state = (ticked m).1; counts = x; fails = is_error (ticked m).0; report = tick_report program.project ((ticked m).1).cells (ticked m).0 }) (core_tick program x s)
 
-  pub one-tick : (events : length program.project.events ≤ 4096) → 3 ≤ weight → layout.cells ≡ cells → (b : ℕ) (r : Run) (c : CoreRun) → Along b r c → OneTick b r c
-  one-tick events heavy same b r c along = by_active (c.state).active refl
+  counted : length program.project.events ≤ 4096 → 3 ≤ weight → (b : ℕ) (m : State) (s : CoreState) → Near b m s → s.active ≡ true → Lands program code weight (core_step program s) m → Ticks b m s true
+  counted events heavy b m s r active lands = record {
+    counts = refl;
+    fails = lands.sound;
+    report = lands.told;
+    rests = λ h. runs-now b m s r active;
+    left = weight - 1;
+    tied = aligned-near events heavy (ticked m).1 (core_step program s).state lands.next;
+    sooner = λ none. absurd (true≢false none);
+  }
+
+  waited : (b : ℕ) (m : State) (s : CoreState) → Near (suc b) m s → s.active ≡ true → Hidden code cells m → Ahead b (ticked m).1 s → Ticks (suc b) m s false
+  waited b m s r active hidden rest = record {
+    counts = refl;
+    fails = silent-sound cells (ticked m).0 hidden.silent;
+    report = ap (option_map (report_by f)) (silent-report program.project ((ticked m).1).cells cells (ticked m).0 hidden.silent);
+    rests = λ h. absurd (true≢false (sym h));
+    left = b;
+    tied = record {
+      base = same-base m (ticked m).1 s r.base hidden.same;
+      on_line = λ on. (hidden.same).line ∙ r.on_line on;
+      unpaused = r.unpaused;
+      ahead = λ on. rest;
+      uncalled = r.uncalled;
+      small = let few = r.small in omega arith;
+    };
+    sooner = λ none runs. omega arith;
+  }
+
+  rested : (b : ℕ) (m : State) (s : CoreState) → Near b m s → s.active ≡ false → ticked m ≡ (Idle, m) → Ticks b m s false
+  rested b m s r rests tick = record {
+    counts = refl;
+    fails = ap (λ (x : Tick × State). is_error x.0) tick;
+    report = ap (λ (x : Tick × State). option_map (report_by f) (tick_report program.project (x.1).cells x.0)) tick;
+    rests = λ h. absurd (true≢false (sym h));
+    left = b;
+    tied = subst (λ (x : Tick × State). Near b x.1 s) (sym tick) r;
+    sooner = λ none runs. absurd (true≢false (sym (and-left s.active (not s.paused) (sym (machine-runs m s r.base) ∙ runs)) ∙ rests));
+  }
+
+  -- a tick of either kind
+  ticks-so : length program.project.events ≤ 4096 → 3 ≤ weight → layout.cells ≡ cells → (b : ℕ) (m : State) (s : CoreState) → Near b m s → Ticks b m s (is_effect layout.cells (ticked m).0)
+  ticks-so events heavy same b m s r = by_active s.active refl
     where
-      by_active : (x : Bool) → (c.state).active ≡ x → OneTick b r c
-      by_active true active = running-tick events heavy same b r c along active (along.ahead active)
-      by_active false rests = inr (inr (resting-tick same b r c along rests))
+      is : (x : Bool) → is_effect cells (ticked m).0 ≡ x → Ticks b m s x → Ticks b m s (is_effect layout.cells (ticked m).0)
+      is x e t = subst (Ticks b m s) (sym (ap (λ n. is_effect n (ticked m).0) same ∙ e)) t
 
-  -- a tick in one piece, with what the core's run makes of it
-  pub record Goes (b : ℕ) (r : Run) (c : CoreRun) : Type 0 where
-    pub sound : is_error (ticked r.machine).0 ≡ false
-    pub rests : (not (is_effect layout.cells (ticked r.machine).0) || core_is_running c.state) ≡ true
-    pub less : ℕ
-    pub small : less + 1 ≤ weight
-    pub sooner : is_effect layout.cells (ticked r.machine).0 ≡ false → core_is_running c.state ≡ true → less + 1 ≤ b
-    pub next : Along less (ticking program.project layout [] r) (core_ticking program [] c (is_effect layout.cells (ticked r.machine).0))
-
-  goes : length program.project.events ≤ 4096 → 3 ≤ weight → layout.cells ≡ cells → (b : ℕ) (r : Run) (c : CoreRun) → b + 1 ≤ weight → Along b r c → Goes b r c
-  goes events heavy same b r c small along =
-      let is : (beat : Bool) → is_effect cells (ticked r.machine).0 ≡ beat → is_effect layout.cells (ticked r.machine).0 ≡ beat = λ beat e. ap (λ n. is_effect n (ticked r.machine).0) same ∙ e in
-      elim (one-tick events heavy same b r c along) [
-        | inl t ↦
-            let beat : is_effect layout.cells (ticked r.machine).0 ≡ true = is true t.beat in
-            record {
-              sound = t.sound;
-              rests = rw (beat, t.runs) refl;
-              less = weight - 1;
-              small = omega arith;
-              sooner = λ none. absurd (true≢false (sym beat ∙ none));
-              next = subst (λ x. Along (weight - 1) (ticking program.project layout [] r) (core_ticking program [] c x)) (sym beat) t.next;
-            }
-        | inr q ↦ elim q [
-          | inl t ↦
-              let beat : is_effect layout.cells (ticked r.machine).0 ≡ false = is false t.beat in
-              record {
-                sound = t.sound;
-                rests = rw beat refl;
-                less = t.less;
-                small = let e = t.counts in omega arith;
-                sooner = λ none runs. let e = t.counts in omega arith;
-                next = subst (λ x. Along t.less (ticking program.project layout [] r) (core_ticking program [] c x)) (sym beat) t.next;
-              }
-          | inr t ↦
-              let beat : is_effect layout.cells (ticked r.machine).0 ≡ false = is false t.beat in
-              record {
-                sound = t.sound;
-                rests = rw beat refl;
-                less = b;
-                small = small;
-                sooner = λ none runs. absurd (true≢false (sym runs ∙ t.rests));
-                next = subst (λ x. Along b (ticking program.project layout [] r) (core_ticking program [] c x)) (sym beat) t.next;
-              }
-        ]
+      by_ahead : (k : ℕ) → b ≡ k → s.active ≡ true → Ahead k m s → Ticks b m s (is_effect layout.cells (ticked m).0)
+      by_ahead zero e active lands = is true lands.counts (counted events heavy b m s r active lands)
+      by_ahead (suc k) e active ahead = elim ahead [
+        | inl lands ↦ is true lands.counts (counted events heavy b m s r active lands)
+        | inr h ↦ is false (h.0).silent (subst (λ n. Ticks n m s false) (sym e) (waited k m s (subst (λ n. Near n m s) e r) active h.0 h.1))
       ]
 
-  module _ (events : length program.project.events ≤ 4096) (heavy : 3 ≤ weight) (same : layout.cells ≡ cells) where
-    abbrev beats : ℕ → Run → List Bool
-    beats n r = beats_from program.project layout [] n r
+      by_active : (x : Bool) → s.active ≡ x → Ticks b m s (is_effect layout.cells (ticked m).0)
+      by_active true active = by_ahead b refl active (r.ahead active)
+      by_active false rests =
+          let idle : ticked m ≡ (Idle, m) = ticked-idle m ((r.base).same_active ∙ rests) in
+          is false (ap (λ (x : Tick × State). is_effect cells x.0) idle) (rested b m s r rests idle)
 
-    abbrev moments : ℕ → Run → CoreRun → List CoreMoment
-    moments n r c = core_moments_from program [] c (beats n r)
+  -- where a tick is an effect, the machine calls no native
+  machine-uncalled : layout.cells ≡ cells → (b : ℕ) (m : State) (s : CoreState) → Near b m s → is_effect layout.cells (ticked m).0 ≡ true → next_call program.project m ≡ None
+  machine-uncalled same b m s r counts = by_active s.active refl
+    where
+      here : is_effect cells (ticked m).0 ≡ true
+      here = ap (λ n. is_effect n (ticked m).0) (sym same) ∙ counts
 
-    pub along-all : (n b : ℕ) (r : Run) (c : CoreRun) → b + 1 ≤ weight → Along b r c → (k : ℕ) × Along k (all_ticking program.project layout [] n r) (core_all_ticking program [] c (beats n r))
-    along-all zero b r c small along = (b, along)
-    along-all (suc n) b r c small along =
-        let g : Goes b r c = goes events heavy same b r c small along in
-        along-all n g.less (ticking program.project layout [] r) (core_ticking program [] c (is_effect layout.cells (ticked r.machine).0)) g.small g.next
+      by_ahead : (k : ℕ) → Ahead k m s → next_call program.project m ≡ None
+      by_ahead zero lands = lands.uncalled program.project
+      by_ahead (suc k) ahead = elim ahead [
+        | inl lands ↦ lands.uncalled program.project
+        | inr h ↦ absurd (true≢false (sym here ∙ (h.0).silent))
+      ]
 
-    pub no-errors : (n b : ℕ) (r : Run) (c : CoreRun) → b + 1 ≤ weight → Along b r c → list_all not (errors_from program.project layout [] n r) ≡ true
-    no-errors zero b r c small along = refl
-    no-errors (suc n) b r c small along =
-        let g : Goes b r c = goes events heavy same b r c small along in
-        let rest : list_all not (errors_from program.project layout [] n (ticking program.project layout [] r)) ≡ true =
-        no-errors n g.less (ticking program.project layout [] r) (core_ticking program [] c (is_effect layout.cells (ticked r.machine).0)) g.small g.next in
-        rw (g.sound) rest
+      by_active : (x : Bool) → s.active ≡ x → next_call program.project m ≡ None
+      by_active true active = by_ahead b (r.ahead active)
+      by_active false rests = let idle : m.active ≡ false = (r.base).same_active ∙ rests in rw idle refl
 
-    pub all-rest : (n b : ℕ) (r : Run) (c : CoreRun) → b + 1 ≤ weight → Along b r c → list_all (λ m. not m.steps || m.runs) (moments n r c) ≡ true
-    all-rest zero b r c small along = refl
-    all-rest (suc n) b r c small along =
-        let g : Goes b r c = goes events heavy same b r c small along in
-        let beat : Bool = is_effect layout.cells (ticked r.machine).0 in
-        let next : Run = ticking program.project layout [] r in
-        let rest : list_all (λ m. not m.steps || m.runs) (moments n next (core_ticking program [] c beat)) ≡ true = all-rest n g.less next (core_ticking program [] c beat) g.small g.next in
-        and-both (not beat || core_is_running c.state) (list_all (λ m. not m.steps || m.runs) (moments n next (core_ticking program [] c beat))) g.rests rest
+  cells-alike : (m : State) (s : CoreState) → Base program code weight m s → take cells m.cells ≡ take cells s.cells
+  cells-alike m s base =
+      let long : cells ≤ length m.cells = let l = base.long in omega arith in
+      let core_long : cells ≤ length s.cells = let l = base.core_long in omega arith in
+      taken-alike (pos 0) cells m.cells s.cells long core_long base.same_cells
 
-    -- among so many ticks of a handler one is a step
-    pub soon : (n w b : ℕ) (r : Run) (c : CoreRun) → b + 1 ≤ w → w ≤ n → w ≤ weight → Along b r c → list_all (λ m. m.runs) (take w (moments n r c)) ≡ true → list_any (λ m. m.steps) (take w (moments n r c)) ≡ true
-    soon n zero b r c small fits light along runs = absurd (omega arith)
-    soon zero (suc w) b r c small fits light along runs = absurd (omega arith)
-    soon (suc n) (suc w) b r c small fits light along runs =
-        let g : Goes b r c = goes events heavy same b r c (omega arith) along in
-        let beat : Bool = is_effect layout.cells (ticked r.machine).0 in
-        let next : Run = ticking program.project layout [] r in
-        let rest : List CoreMoment = take w (moments n next (core_ticking program [] c beat)) in
-        let here : core_is_running c.state ≡ true = and-left (core_is_running c.state) (list_all (λ m. m.runs) rest) runs in
-        let later : list_all (λ m. m.runs) rest ≡ true = and-right (core_is_running c.state) (list_all (λ m. m.runs) rest) runs in
-        now-or-later beat (list_any (λ m. m.steps) rest)
-        (λ silent. let sooner : g.less + 1 ≤ b = g.sooner silent here in soon n w g.less next (core_ticking program [] c beat) (omega arith) (omega arith) (omega arith) g.next later)
+  shows : IsLaidOut program layout → (m : State) (s : CoreState) → Base program code weight m s → cells_at m.cells layout.own ≡ cells_at s.cells (own_places program)
+  shows laid m s base =
+      let shown : List ℤ → Placed → Name × List ℤ = λ memory v. (v.name, take v.size (drop v.start memory)) in
+      let node : ℕ = length program.project.node.variables in
+      let all : List Placed = placed_from 0 program.variables in
+      let inside : 0 + sum_by (λ v. v.size) program.variables ≤ cells = let together = laid.together in omega arith in
+      ap (cells_at m.cells) laid.own ∙ sym (drop-map (shown m.cells) node all)
+      ∙ ap (drop node) (shown-alike m.cells s.cells cells 0 program.variables (cells-alike m s base) inside) ∙ drop-map (shown s.cells) node all
 
-    pub keeps-pace : (first n b : ℕ) (r : Run) (c : CoreRun) → b + 1 ≤ weight → first + weight ≤ n → Along b r c → is_one_core_handler (take weight (drop first (moments n r c))) ≡ true
-        → list_any (λ m. m.steps) (take weight (drop first (moments n r c))) ≡ true
-    keeps-pace zero n b r c small fits along one =
-        soon n weight b r c small (omega arith) (omega arith) along (and-left (list_all (λ m. m.runs) (take weight (moments n r c))) (not (list_any (λ m. m.begins) (drop 1 (take weight (moments n r c))))) one)
-    keeps-pace (suc first) zero b r c small fits along one = absurd (omega arith)
-    keeps-pace (suc first) (suc n) b r c small fits along one =
-        let g : Goes b r c = goes events heavy same b r c small along in
-        keeps-pace first n g.less (ticking program.project layout [] r) (core_ticking program [] c (is_effect layout.cells (ticked r.machine).0)) g.small (omega arith) g.next one
+  pub straight-tied : length program.project.events ≤ 4096 → 3 ≤ weight → IsLaidOut program layout → TiedWithin Good Known f one two weight Near
+  straight-tied events heavy laid = record {
+    small = λ b m s r. r.small;
+    meets = λ b event source args m s good r. absurd good;
+    writes = λ b name first values m s good r. absurd good;
+    ticks = λ b beat m s r known. ticks-so events heavy laid.cells b m s r;
+    runs = λ b m s r. machine-runs m s r.base;
+    calls = λ b beat m s r counts. machine-uncalled laid.cells b m s r counts ∙ sym r.uncalled;
+    shows = λ b m s r. shows laid m s r.base;
+  }
 
   -- what is seen of both
-  pub seen : (b : ℕ) (r : Run) (c : CoreRun) → Along b r c → Seen code cells r.machine c.state
-  seen b r c along =
-      let base : Base program code weight r.machine c.state = along.base in
-      let long : cells ≤ length (r.machine).cells = let l = base.long in omega arith in
-      let core_long : cells ≤ length (c.state).cells = let l = base.core_long in omega arith in
-      let held_long : cells ≤ length (r.machine).held = let l = base.held_long in omega arith in
-      let core_held_long : cells ≤ length (c.state).held = let l = base.core_held_long in omega arith in
+  pub seen : (b : ℕ) (m : State) (s : CoreState) → Near b m s → Seen code cells m s
+  seen b m s r =
+      let base : Base program code weight m s = r.base in
+      let held_long : cells ≤ length m.held = let l = base.held_long in let k = base.long in omega arith in
+      let core_held_long : cells ≤ length s.held = let l = base.core_held_long in let k = base.core_long in omega arith in
       record {
-        cells_alike = taken-alike (pos 0) cells (r.machine).cells (c.state).cells long core_long base.same_cells;
+        cells_alike = cells-alike m s base;
         bits_alike = base.same_bits;
-        held_alike = taken-alike None cells (r.machine).held (c.state).held held_long core_held_long base.same_held;
+        held_alike = taken-alike None cells m.held s.held held_long core_held_long base.same_held;
         active_alike = base.same_active;
         paused_alike = base.same_paused;
-        line_alike = along.on_line;
+        line_alike = r.on_line;
       }
+
+  no-action : (n : ℕ) → All Good (actions_at [] n)
+  no-action n = λ k d below. absurd (omega arith)
+
+-- no step of a core is an error of the node
+core-sound : (program : CoreProgram) (script : Script) (beats : List Bool) (r : Run CoreState) → list_all (λ m. not m.fails) (moments_from (core_system program) script r beats) ≡ true
+core-sound program script [] r = refl
+core-sound program script (true ∷ beats) r = core-sound program script beats (ticking (core_system program) script r true)
+core-sound program script (false ∷ beats) r = core-sound program script beats (ticking (core_system program) script r false)
 
 -- The whole run
 
 module _ (project : Project) (variables : List Sized) (init : CoreStmts) (cells room size depth : ℕ) (layout : Layout) (n : ℕ) where
-  alone-runs : IsStraightCore project (alone project variables init cells room size depth) → layout.cells ≡ cells → RunsAlike (alone_program project variables init cells room size depth) layout [] n
-  alone-runs h same =
+  alone-runs : (m : State) → IsStraightCore project (alone project variables init cells room size depth) → IsLaidOut (alone_program project variables init cells room size depth) layout
+      → IsStarted project (code_words project (alone project variables init cells room size depth)) m → RunsAlike (alone_program project variables init cells room size depth) layout m [] n
+  alone-runs m h laid begun =
       let core : Core = alone project variables init cells room size depth in
       let program : CoreProgram = alone_program project variables init cells room size depth in
       let code : List Coded = core_code project core in
@@ -354,41 +316,34 @@ module _ (project : Project) (variables : List Sized) (init : CoreStmts) (cells 
       let node : IsNode project = h.node in
       let events : length project.events ≤ 4096 = node.events in
       let heavy : 3 ≤ weight = let l = weight-least cells init 0 in omega arith in
-      let m : State = started project (code_words project core) in
       let s : CoreState = core_loaded program in
-      let aligned : Aligned program code weight m s = first-aligned project variables init cells room size depth h in
-      let r : Run = beginning m in
-      let c : CoreRun = core_begin_of program in
-      let works : s.active ≡ true → Working program code weight m s = aligned.works in
-      let along : Along program code weight layout (weight - 1) r c = record {
-        ticks = refl;
-        effects = refl;
-        lines = refl;
-        base = aligned.base;
-        on_line = λ on. let w : Working program code weight m s = works on in placed-line program code weight (m.shape).stack s.work m.pc w.kept 0 w.placed;
-        unpaused = λ on. let w : Working program code weight m s = works on in sym (aligned.base).same_paused ∙ w.unpaused;
-        ahead = λ on. aligned-ahead program code weight layout events heavy m s aligned on;
-      } in
-      let small : weight - 1 + 1 ≤ weight = omega arith in
-      let end = along-all program code weight layout events heavy same n (weight - 1) r c small along in
-      let last = end.1 in
-      let many : length (table_beats project layout (code_words project core) [] n) ≡ n = beats_are_ticks project layout (code_words project core) [] n in
+      let aligned : Aligned program code weight m s = first-aligned project variables init cells room size depth h m begun in
+      let start : Near program code weight layout (weight - 1) m s = aligned-near program code weight layout events heavy m s aligned in
+      let good : (k : ℕ) → All (Good program code weight layout) (actions_at [] k) = no-action program code weight layout in
+      let tied : TiedWithin (Good program code weight layout) (Known program code weight layout) (line_at code) (machine_system project layout) (core_system program) weight (Near program code weight layout) =
+      straight-tied program code weight layout events heavy laid in
+      let known : one_run.CallsKnown (Known program code weight layout) (core_moments program [] (machine_beats project layout m [] n)) = λ k d below name e. tt in
+      let all : tie.RunsAlike (line_at code) (machine_system project layout) (core_system program) (Somehow (Near program code weight layout)) m s [] (ticks n) =
+      runs_alike (Good program code weight layout) (Known program code weight layout) (line_at code) (machine_system project layout) (core_system program) (Somehow (Near program code weight layout))
+      (tied_somehow (Good program code weight layout) (Known program code weight layout) (line_at code) (machine_system project layout) (core_system program) weight (Near program code weight layout) tied)
+      [] good m s (ticks n) (weight - 1, start) known in
+      let pace : one_run.Paced weight (machine_moments project layout m [] n) =
+      paced (Good program code weight layout) (Known program code weight layout) (line_at code) (machine_system project layout) (core_system program) weight (Near program code weight layout) tied
+      [] good (weight - 1) m s (ticks n) start known in
       record {
-        ticks = last.ticks;
-        effects = last.effects;
-        lines = last.lines;
-        seen = seen program code weight layout end.0 (all_ticking project layout [] n r) (core_all_ticking program [] c (beats_from project layout [] n r)) end.1;
-        paced = record {
-          rests = all-rest program code weight layout events heavy same n (weight - 1) r c small along;
-          keeps_pace = λ first fits one. keeps-pace program code weight layout events heavy same first n (weight - 1) r c small (omega arith) along one;
-        };
-        no_error = no-errors program code weight layout events heavy same n (weight - 1) r c small along;
+        ticks = all.ticks;
+        effects = all.effects;
+        lines = all.lines;
+        same_moments = all.same_moments;
+        seen = seen program code weight layout (all.tied).0 (machine_run project layout m [] n).state (core_run program [] (machine_beats project layout m [] n)).state (all.tied).1;
+        paced = subst (one_run.Paced weight) all.same_moments pace;
+        no_error = subst HasNoError (sym all.same_moments) (core-sound program [] (machine_beats project layout m [] n) (begin s));
       }
 
 pub straight_code_runs : StraightCodeRuns
-straight_code_runs program layout n h same =
+straight_code_runs program layout m n h laid begun =
     let core : Core = program.core in
     let bare : List CorePart → CoreProgram = λ parts. record program { core = record core { parts = parts } } in
+    let Runs : List CorePart → Type 0 = λ parts. IsStraightCore program.project (record core { parts = parts }) → IsLaidOut (bare parts) layout → IsStarted program.project (words_of (bare parts)) m → RunsAlike (bare parts) layout m [] n in
     let e : core.parts ≡ [] = h.alone in
-    let straight : IsStraightCore program.project (record core { parts = [] }) = subst (λ parts. IsStraightCore program.project (record core { parts = parts })) e h in
-    subst (λ parts. RunsAlike (bare parts) layout [] n) (sym e) (alone-runs program.project program.variables core.init core.cells core.room core.size core.depth layout n straight same)
+    subst Runs (sym e) (λ straight places started. alone-runs program.project program.variables core.init core.cells core.room core.size core.depth layout n m straight places started) h laid begun

@@ -1,5 +1,5 @@
 -- One tick of each instruction that code has, where it finds what it needs.
-use Rattle.std.proofs.Common.{◌≡◌, ℕ, ◌+◌, ◌%◌, ◌<◌, ◌≤◌, ◌||◌, true, false, if◌then◌else◌, nat_lt, nat_le, ℤ, pos, negsuc, ◌-ℤ◌, List, ◌∷◌, length, slice_get, slice_set, slice_index_or, Some, None, refl, ap, ◌∙◌, lt-ltb, le-leb, ltb-false, arith}
+use Rattle.std.proofs.Common.{◌≡◌, ℕ, ◌+◌, ◌*◌, ◌/◌, ◌%◌, ◌<◌, ◌≤◌, ◌||◌, true, false, if◌then◌else◌, nat_lt, nat_le, ℤ, pos, negsuc, ◌-ℤ◌, List, ◌∷◌, length, slice_get, slice_set, slice_index_or, Some, None, refl, ap, ◌∙◌, lt-ltb, le-leb, ltb-false, arith}
 use Rattle.std.specs.Prelude.{int_lt}
 use Rattle.std.specs.Int.{cast_signed, w16}
 use Rattle.aseba_words.specs.Cell.{unary_value, binary_value}
@@ -15,7 +15,9 @@ use Rattle.aseba_vm.specs.Outcome.{index_in}
 use Rattle.aseba_vm.specs.Rows.{row}
 use Rattle.aseba_vm.specs.Tick.{ticked, settled}
 use Rattle.aseba_vm.proofs.Ticks.{ticked-row}
-use Rattle.aseba_vm.proofs.Words.{opcode_of-word, operand_of-word}
+use Rattle.aseba_vm.proofs.ReadBack.{operand_of-word}
+use Rattle.aseba_tree.specs.Code.{Project}
+use Rattle.aseba_target.specs.MachineRun.{opcode_call, next_call}
 use Rattle.aseba_codegen.specs.Words.{instruction, twelve_bits}
 
 -- a machine at another place, with another stack
@@ -32,12 +34,25 @@ pub record Ready (m : State) (word : ℕ) : Type 0 where
   pub unpaused : m.paused ≡ false
   pub at : slice_get m.code m.pc ≡ Some word
 
+opcode-read : (number low : ℕ) → opcode_of (instruction number low) ≡ slice_index_or opcodes number NoInstruction
+opcode-read number low = let high : (number * 4096 + low % 4096) / 4096 ≡ number = omega arith in ap (λ n. slice_index_or opcodes n NoInstruction) high
+
 -- the next tick is this instruction
 row-tick : (m : State) (number low : ℕ) → low < 4096 → Ready m (instruction number low)
     → ticked m ≡ settled (row (slice_index_or opcodes number NoInstruction) (instruction number low) m).0 (row (slice_index_or opcodes number NoInstruction) (instruction number low) m).1
 row-tick m number low below ready =
-    let named : opcode_of (instruction number low) ≡ slice_index_or opcodes number NoInstruction = opcode_of-word number (low % 4096) (omega arith) in
+    let named : opcode_of (instruction number low) ≡ slice_index_or opcodes number NoInstruction = opcode-read number low in
     ticked-row m (instruction number low) ready.active ready.unpaused ready.at ∙ ap (λ op. settled (row op (instruction number low) m).0 (row op (instruction number low) m).1) named
+
+-- the word at the counter calls no native
+abbrev pub NoCall : State → Type 0
+NoCall m = (project : Project) → next_call project m ≡ None
+
+pub no-call : (m : State) (number low : ℕ) → low < 4096 → Ready m (instruction number low)
+    → ((project : Project) (id : ℕ) → opcode_call project id (slice_index_or opcodes number NoInstruction) ≡ None) → NoCall m
+no-call m number low below ready none project =
+    let named : opcode_of (instruction number low) ≡ slice_index_or opcodes number NoInstruction = opcode-read number low in
+    rw (ready.active, ready.unpaused, ready.at) (ap (opcode_call project (operand_of (instruction number low))) named ∙ none project (operand_of (instruction number low)))
 
 -- the low bits are read back
 low-of : (number low : ℕ) → low < 4096 → operand_of (instruction number low) ≡ low
@@ -124,7 +139,7 @@ unary-low op = grind arith
 unary-read : (op : Unary) → unary_coded (unary_code op) ≡ Some op
 unary-read op = grind arith
 
-binary-low : (op : Binary) → binary_code op < 4096
+pub binary-low : (op : Binary) → binary_code op < 4096
 binary-low op = grind arith
 
 pub binary-read : (op : Binary) → binary_coded (binary_code op) ≡ Some op

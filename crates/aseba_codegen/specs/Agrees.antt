@@ -1,25 +1,20 @@
 -- How a machine that runs the code of a core stands to the core.
-use Rattle.std.specs.Prelude.{◌≡◌, ℕ, zero, suc, ◌<◌, ◌≤◌, nat_lt, nat_le, nat_eq, Bool, true, false, ◌&&◌, not, if◌then◌else◌, IsTrue, ℤ, pos, negsuc, List, [], ◌∷◌, map, length, take, All, slice_index}
-use Rattle.std.specs.List.{list_all}
+use Rattle.std.specs.Prelude.{◌≡◌, ℕ, ◌<◌, ◌≤◌, Bool, true, false, ◌&&◌, if◌then◌else◌, IsTrue, List, [], ◌∷◌, map, length, take, sum_by, All, slice_index}
 use Rattle.aseba_tree.specs.Code.{Project}
 use Rattle.aseba_tree.specs.Line.{line_by}
-use Rattle.aseba_tree.specs.Script.{Script, actions_at}
-use Rattle.aseba_tree.specs.CoreExpr.{CoreExpr, fixed, cell, indirect, prefix, infix_of, CoreTarget, into, into_index}
-use Rattle.aseba_tree.specs.Core.{CoreStmt, core_stmt, CoreForm, store, branch, on_edge, loop, send, CoreStmts, no_core, core_stmts, Core}
+use Rattle.aseba_tree.specs.Script.{Script}
+use Rattle.aseba_tree.specs.Core.{CoreStmt, core_stmt, CoreForm, store, send, CoreStmts, no_core, core_stmts, Core}
 use Rattle.aseba_tree.specs.CoreNumbers.{core_weight}
 use Rattle.aseba_tree.specs.CoreShape.{IsCore}
 use Rattle.aseba_tree.specs.CoreStep.{CoreProgram, CoreState, core_next_line}
-use Rattle.aseba_vm.specs.declared.tick.Tick.{Tick}
-use Rattle.aseba_vm.specs.declared.tick.Tick.TheVariants.{Sent}
-use Rattle.aseba_vm.specs.declared.tick.Notice.{Notice}
-use Rattle.aseba_vm.specs.declared.tick.Notice.TheVariants.{NodeError}
+use Rattle.aseba_tree.specs.CoreRun.{own_places, core_run, core_lines, core_moments}
+use Rattle.aseba_tree.specs.Run.{Paced, HasNoError}
 use Rattle.aseba_vm.specs.State.{State}
 use Rattle.aseba_vm.specs.Instructions.{was_true}
-use Rattle.aseba_vm.specs.Tick.{ticked}
-use Rattle.aseba_codegen.specs.Table.{Layout, Run, all_acting, ticking, all_ticking, beginning, started, table_beats}
+use Rattle.aseba_target.specs.Node.{Layout, IsStarted}
+use Rattle.aseba_target.specs.MachineRun.{machine_run, machine_lines, machine_moments, machine_beats}
 use Rattle.aseba_codegen.specs.declared.coded.Coded.{Coded}
 use Rattle.aseba_codegen.specs.Words.{core_code, code_words}
-use Rattle.aseba_codegen.specs.CoreRun.{CoreRun, core_run_of, CorePaced}
 
 -- What is asked of projects and cores
 
@@ -70,52 +65,31 @@ pub record Seen (code : List Coded) (cells : ℕ) (m : State) (s : CoreState) : 
   pub paused_alike : m.paused ≡ s.paused
   pub line_alike : s.active ≡ true → line_at code m.pc ≡ core_next_line s
 
--- a tick that is a node error
-abbrev pub is_error_notice : Notice → Bool
-is_error_notice (NodeError pc fault) = true
-is_error_notice _ = false
-
-abbrev pub is_error : Tick → Bool
-is_error (Sent notice) = is_error_notice notice
-is_error _ = false
-
--- which ticks of a run were node errors, one truth for each
-abbrev pub errors_from : Project → Layout → Script → ℕ → Run → List Bool
-errors_from project layout script zero run = []
-errors_from project layout script (suc n) run =
-    is_error (ticked (all_acting project layout run (actions_at script run.ticks)).machine).0 ∷ errors_from project layout script n (ticking project layout script run)
-
--- no tick of a run of words is a node error
-abbrev pub HasNoError : Project → Layout → List ℕ → Script → ℕ → Type 0
-HasNoError project layout words script n = IsTrue (list_all not (errors_from project layout script n (beginning (started project words))))
-
 -- the words of a program's core
 abbrev pub words_of : CoreProgram → List ℕ
 words_of program = code_words program.project program.core
 
--- so many ticks of the machine on them
-abbrev pub run_of_words : CoreProgram → Layout → Script → ℕ → Run
-run_of_words program layout script n = all_ticking program.project layout script n (beginning (started program.project (words_of program)))
-
--- the ticks of that run that were effects
-abbrev pub beats_of_words : CoreProgram → Layout → Script → ℕ → List Bool
-beats_of_words program layout script n = table_beats program.project layout (words_of program) script n
-
--- the core's run with a step at each of these
-abbrev pub run_of_core : CoreProgram → Layout → Script → ℕ → CoreRun
-run_of_core program layout script n = core_run_of program script (beats_of_words program layout script n)
+-- A layout of a core's variables: the cells are those of its variables together, which begin with the node's, and the same variables are shown.
+pub record IsLaidOut (program : CoreProgram) (layout : Layout) : Type 0 where
+  pub cells : layout.cells ≡ program.core.cells
+  pub together : sum_by (λ v. v.size) program.variables ≡ program.core.cells
+  pub own : layout.own ≡ own_places program
 
 -- After some ticks the machine stands at the core's state after as many steps as there were effects. Both told the same, with a place of the code where the
--- core has a line; the effects kept the core's pace, and no tick was a node error.
-pub record RunsAlike (program : CoreProgram) (layout : Layout) (script : Script) (n : ℕ) : Type 0 where
-  pub ticks : (run_of_words program layout script n).ticks ≡ (run_of_core program layout script n).ticks
-  pub effects : (run_of_words program layout script n).effects ≡ (run_of_core program layout script n).steps
-  pub lines : map (line_by (line_at (core_code program.project program.core))) (run_of_words program layout script n).lines ≡ (run_of_core program layout script n).lines
-  pub seen : Seen (core_code program.project program.core) program.core.cells (run_of_words program layout script n).machine (run_of_core program layout script n).state
-  pub paced : CorePaced (core_weight program.core) program script (beats_of_words program layout script n)
-  pub no_error : HasNoError program.project layout (words_of program) script n
+-- core has a line, and show the same at each tick; the effects kept the core's pace, and no tick was a node error.
+pub record RunsAlike (program : CoreProgram) (layout : Layout) (m : State) (script : Script) (n : ℕ) : Type 0 where
+  pub ticks : (machine_run program.project layout m script n).ticks ≡ (core_run program script (machine_beats program.project layout m script n)).ticks
+  pub effects : (machine_run program.project layout m script n).effects ≡ (core_run program script (machine_beats program.project layout m script n)).effects
+  pub lines : map (line_by (line_at (core_code program.project program.core))) (machine_lines program.project layout m script n)
+      ≡ core_lines program script (machine_beats program.project layout m script n)
+  pub same_moments : machine_moments program.project layout m script n ≡ core_moments program script (machine_beats program.project layout m script n)
+  pub seen : Seen (core_code program.project program.core) program.core.cells (machine_run program.project layout m script n).state
+      (core_run program script (machine_beats program.project layout m script n)).state
+  pub paced : Paced (core_weight program.core) (core_moments program script (machine_beats program.project layout m script n))
+  pub no_error : HasNoError (machine_moments program.project layout m script n)
 
--- Straight code, run without a script, runs as its core does.
+-- Straight code, run without a script, runs as its core does, whatever stands behind it in the machine's code.
 abbrev pub StraightCodeRuns : Type 0
 StraightCodeRuns =
-    (program : CoreProgram) (layout : Layout) (n : ℕ) → IsStraightCore program.project program.core → layout.cells ≡ program.core.cells → RunsAlike program layout [] n
+    (program : CoreProgram) (layout : Layout) (m : State) (n : ℕ) → IsStraightCore program.project program.core → IsLaidOut program layout
+    → IsStarted program.project (words_of program) m → RunsAlike program layout m [] n

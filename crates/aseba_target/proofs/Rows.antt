@@ -5,8 +5,8 @@ use Rattle.aseba_vm.specs.Tick.{ticked}
 use Rattle.aseba_vm.specs.Arrival.{arrived}
 use Rattle.aseba_vm.specs.Control.{hold_written}
 use Rattle.aseba_vm.specs.Loaded.{made, loaded, reset_state}
-use Rattle.aseba_codegen.specs.Table.{started}
-use Rattle.aseba_codegen.specs.Worked.{ForLoop, SubCall, WhenEdge, KillInExpression}
+use Rattle.aseba_target.specs.Node.{started}
+use Rattle.aseba_target.specs.Worked.{ForLoop, SubCall, WhenEdge, KillInExpression}
 
 pub for_loop : ForLoop
 unfolding started ticked arrived hold_written made loaded reset_state int_wrap

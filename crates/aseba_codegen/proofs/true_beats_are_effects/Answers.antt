@@ -1,5 +1,0 @@
-use Rattle.aseba_codegen.proofs.BeatLaws.{true_beats_are_effects}
-use Rattle.aseba_codegen.proofs.true_beats_are_effects.Goals as goal
-
-pub returns : goal.returns
-returns c = true_beats_are_effects

@@ -1,0 +1,4 @@
+pub mod BeatLaws
+pub mod Nodes
+pub mod Rows
+pub mod Started

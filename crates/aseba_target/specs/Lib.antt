@@ -1,0 +1,5 @@
+pub mod Beats
+pub mod MachineRun
+pub mod Node
+pub mod Place
+pub mod Worked
