@@ -10,12 +10,11 @@ pub mod StraightLists
 pub mod StraightLoad
 pub mod StraightMeanings
 pub mod StraightNames
-pub mod StraightPace
-pub mod StraightRuns
 pub mod StraightShape
 pub mod StraightSound
 pub mod StraightSource
 pub mod StraightStanding
 pub mod StraightSteps
+pub mod StraightTied
 pub mod StraightValues
 pub mod StraightWords

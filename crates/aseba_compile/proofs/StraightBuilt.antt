@@ -15,7 +15,8 @@ use Rattle.aseba_tree.specs.Core.{CoreStmt, core_stmt, core_stmts}
 use Rattle.aseba_tree.specs.Layout.{address_of, variables}
 use Rattle.aseba_tree.specs.Elements.{variable_place, elements_of_form, element_of}
 use Rattle.aseba_tree.proofs.SizeLaws.{both_left, both_right}
-use Rattle.aseba_compile.specs.Straight.{has_one_cell_named, adds, is_sum, is_sum_form, is_all, is_straight_form, address, event_place, core_form_of, core_stmt_of, core_stmts_of}
+use Rattle.aseba_compile.specs.Straight.{has_one_cell_named, adds, is_sum, is_sum_form, is_all, is_straight_form}
+use Rattle.aseba_compile.specs.CoreOf.{address, event_place, core_form_of, core_stmt_of, core_stmts_of}
 use Rattle.aseba_compile.specs.StraightRead.{Meanings, address_in, element_in, form_element, number_in, low, core_form_in, core_stmt_in, value_in, values_in, stmts_in, places_of}
 use Rattle.aseba_compile.proofs.StraightCore.{event-inside}
 use Rattle.aseba_compile.proofs.StraightMeanings.{meanings_of}

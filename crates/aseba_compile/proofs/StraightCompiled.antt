@@ -17,7 +17,8 @@ use Rattle.aseba_codegen.specs.Agrees.{IsNode}
 use Rattle.aseba_codegen.specs.declared.image.Image.{Image}
 use Rattle.aseba_codegen.specs.Generated.{IsImage}
 use Rattle.aseba_codegen.specs.Words.{code_words, code_lines}
-use Rattle.aseba_compile.specs.Straight.{has_only_built_forms, straight_core}
+use Rattle.aseba_compile.specs.Straight.{has_only_built_forms}
+use Rattle.aseba_compile.specs.CoreOf.{straight_core}
 use Rattle.aseba_compile.specs.StraightRun.{HasCellConstants}
 use Rattle.aseba_compile.specs.StraightWords.{IsStraightImage}
 use Rattle.aseba_compile.proofs.StraightCore.{core-shape, cells-fit}

@@ -20,7 +20,8 @@ use Rattle.aseba_tree.specs.CoreLines.{is_kept_on, form_is_lined, list_is_lined}
 use Rattle.aseba_tree.specs.CoreShape.{is_last, is_readable, is_good_expr, is_good_form, is_good_list, kept_at, IsCore}
 use Rattle.aseba_codegen.specs.Agrees.{is_straight_form, is_straight, IsStraightCore}
 use Rattle.aseba_compile.specs.Straight as source
-use Rattle.aseba_compile.specs.Straight.{adds, is_sum_form, event_place, core_form_of, core_stmts_of, straight_core}
+use Rattle.aseba_compile.specs.Straight.{adds, is_sum_form}
+use Rattle.aseba_compile.specs.CoreOf.{event_place, core_form_of, core_stmts_of, straight_core}
 use Rattle.aseba_compile.specs.StraightRun.{HasCellConstants, Fits}
 use Rattle.aseba_compile.proofs.StraightLoad.{first_cells, first-laid}
 use Rattle.aseba_compile.proofs.StraightShape.{all_part, constant_named, has_value, is_value, has_event, are_named, IsStraight}

@@ -8,7 +8,7 @@ use Rattle.aseba_tree.specs.Value.{Cells, put_cell}
 use Rattle.aseba_tree.specs.State.{Program, loaded, zeros, node_variables, declared, init_code, all_whens}
 use Rattle.aseba_tree.specs.Layout.{address_of, variables, cells_of_variables}
 use Rattle.aseba_tree.specs.CoreStep.{core_loaded, whens_before, put_into}
-use Rattle.aseba_compile.specs.Straight.{straight_core, straight_program, core_stmts_of}
+use Rattle.aseba_compile.specs.CoreOf.{straight_core, straight_program, core_stmts_of}
 use Rattle.aseba_compile.specs.Standing.{all_cells_of}
 use Rattle.aseba_compile.proofs.StraightCells.{Laid, put-among, laid-put, laid-zeros, flat-zeros, flat-append, laid-append, replicate-more}
 use Rattle.aseba_compile.proofs.StraightShape.{are_named}

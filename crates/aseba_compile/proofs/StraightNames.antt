@@ -4,8 +4,7 @@ use Rattle.std.specs.Prelude.{map, sum_by, bytes_eq, unwrap_or, if◌then◌else
 use Rattle.std.specs.List.{list_any}
 use Rattle.std.proofs.lemmas.List.Sums.{sum_by-cons, sum_by-append}
 use Rattle.std.proofs.lemmas.Slice.Eq.{bytes_eq-Decides}
-use Rattle.aseba_tree.specs.Code.{Sized}
-use Rattle.aseba_tree.specs.Line.{var}
+use Rattle.aseba_tree.specs.Code.{Name, Sized}
 use Rattle.aseba_tree.specs.Value.{Cells, variable_cells}
 use Rattle.aseba_tree.specs.Layout.{address_from, address_of, Placed, placed_from}
 use Rattle.aseba_tree.proofs.SizeLaws.{both_left, both_right}
@@ -53,15 +52,18 @@ left-in cells vs known es v memory h same new alike =
     let inside : start + v.size ≤ sum_by (λ v. v.size) vs = omega (arith, laid-length cells vs h, found.1) in
     sym (narrowed v.size start (sum_by (λ v. v.size) vs) memory inside) ∙ ap (λ t. take v.size (drop start t)) alike ∙ sym (ap (λ o. unwrap_or o []) found.0)
 
-pub lines-left : (cells : Cells) (vs known own : List Sized) (memory : List ℤ) (start : ℕ) → Laid cells vs → vs ≡ known ++ own → are_new known own ≡ true
+abbrev pair : Name → List ℤ → Name × List ℤ
+pair name cells = (name, cells)
+
+pub cells-left : (cells : Cells) (vs known own : List Sized) (memory : List ℤ) (start : ℕ) → Laid cells vs → vs ≡ known ++ own → are_new known own ≡ true
     → take (sum_by (λ v. v.size) vs) memory ≡ all_cells_of cells → start ≡ sum_by (λ v. v.size) known
-    → map (λ (v : Placed). var v.name (take v.size (drop v.start memory))) (placed_from start own) ≡ map (λ (v : Sized). var v.name (variable_cells cells v.name)) own
-lines-left cells vs known [] memory start h same e alike s = refl
-lines-left cells vs known (v ∷ own) memory start h same e alike s =
+    → map (λ (v : Placed). pair v.name (take v.size (drop v.start memory))) (placed_from start own) ≡ map (λ (v : Sized). pair v.name (variable_cells cells v.name)) own
+cells-left cells vs known [] memory start h same e alike s = refl
+cells-left cells vs known (v ∷ own) memory start h same e alike s =
     let new = not (list_any (λ (u : Sized). bytes_eq u.name v.name) known) in
     let mine = left-in cells vs known own v memory h same (not-true _ (both_left new (are_new (known ++ v ∷ []) own) e)) alike in
     let more : start + v.size ≡ sum_by (λ v. v.size) (known ++ v ∷ []) = omega (arith, s, sum_by-append (λ (v : Sized). v.size) known (v ∷ [])) in
-    let others = lines-left cells vs (known ++ v ∷ []) own memory (start + v.size) h (same ∙ sym (append_assoc known (v ∷ []) own)) (both_right new (are_new (known ++ v ∷ []) own) e) alike more in
-    ap (λ n. var v.name (take v.size (drop n memory)) ∷ map (λ (v : Placed). var v.name (take v.size (drop v.start memory))) (placed_from (start + v.size) own)) s
-    ∙ ap (λ t. var v.name t ∷ map (λ (v : Placed). var v.name (take v.size (drop v.start memory))) (placed_from (start + v.size) own)) mine
-    ∙ ap (λ t. var v.name (variable_cells cells v.name) ∷ t) others
+    let others = cells-left cells vs (known ++ v ∷ []) own memory (start + v.size) h (same ∙ sym (append_assoc known (v ∷ []) own)) (both_right new (are_new (known ++ v ∷ []) own) e) alike more in
+    ap (λ n. pair v.name (take v.size (drop n memory)) ∷ map (λ (v : Placed). pair v.name (take v.size (drop v.start memory))) (placed_from (start + v.size) own)) s
+    ∙ ap (λ t. pair v.name t ∷ map (λ (v : Placed). pair v.name (take v.size (drop v.start memory))) (placed_from (start + v.size) own)) mine
+    ∙ ap (λ t. pair v.name (variable_cells cells v.name) ∷ t) others

@@ -13,7 +13,7 @@ use Rattle.aseba_vm.specs.State as machine
 use Rattle.aseba_codegen.specs.Agrees.{Seen}
 use Rattle.aseba_codegen.specs.declared.coded.Coded.{Coded}
 use Rattle.aseba_compile.specs.Standing.{all_cells_of, MatchesSource}
-use Rattle.aseba_compile.specs.Straight.{core_stmts_of}
+use Rattle.aseba_compile.specs.CoreOf.{core_stmts_of}
 use Rattle.aseba_compile.proofs.StraightCells.{Laid}
 use Rattle.aseba_compile.proofs.StraightSteps.{Alike, both_go, both_rest, going, core_going}
 use Rattle.aseba_compile.proofs.StraightValues.{laid-length}

@@ -17,7 +17,8 @@ use Rattle.aseba_tree.specs.CoreStep.{finish_core, core_tasks, CoreState, CorePr
 use Rattle.aseba_tree.specs.Elements.{element_of}
 use Rattle.aseba_tree.proofs.Steps.{applied-none_held}
 use Rattle.aseba_tree.proofs.SizeLaws.{both_left, both_right}
-use Rattle.aseba_compile.specs.Straight.{has_one_cell_named, is_sum_form, is_all, is_straight_form, event_place, core_stmts_of, straight_program}
+use Rattle.aseba_compile.specs.Straight.{has_one_cell_named, is_sum_form, is_all, is_straight_form}
+use Rattle.aseba_compile.specs.CoreOf.{event_place, core_stmts_of, straight_program}
 use Rattle.aseba_compile.specs.Standing.{all_cells_of}
 use Rattle.aseba_compile.proofs.StraightCells.{Laid, put-flat, laid-put, held-put, held-set}
 use Rattle.aseba_compile.proofs.StraightShape.{all_part, is_value, has_event, are_named}

@@ -5,22 +5,24 @@ use Rattle.aseba_tree.specs.State as tree
 use Rattle.aseba_tree.specs.Layout.{layout, cells_of_variables}
 use Rattle.aseba_tree.specs.Numbers.{source_words}
 use Rattle.aseba_tree.specs.Soundness.{Sound}
+use Rattle.aseba_vm.specs.State.{State}
+use Rattle.aseba_target.specs.Node.{IsStarted}
 use Rattle.aseba_tree.specs.View.{placed_view}
 use Rattle.aseba_compile.specs.declared.program.Program.{Program}
 use Rattle.aseba_compile.specs.declared.refusal.Refusal.{Refusal}
 use Rattle.aseba_compile.specs.declared.refusal.Refusal.TheVariants.{Lex, Syntax, Mem}
 use Rattle.aseba_compile.specs.Reading.{IsOnlyTree, IsTextRefused}
 use Rattle.aseba_compile.specs.Straight.{has_only_built_forms}
-use Rattle.aseba_compile.specs.StraightRun.{RunsAsMeant}
-use Rattle.aseba_compile.specs.StraightWords.{IsTreeRefused}
+use Rattle.aseba_compile.specs.Meaning.{RunsAsMeant}
+use Rattle.aseba_compile.specs.Refused.{IsTreeRefused}
 
 -- The words are code of a source: they are at most as many as its plain code has; each has a line, which is 0 in the event table, whose length is the first
--- word; and however long they run, they run as the source means.
+-- word; and however long they run, on any machine of the node that was reset over code which begins with them, they run as the source means.
 pub record IsCodeOf (source : tree.Program) (words lines : List ℕ) : Type 0 where
   pub few : length words ≤ source_words source
   pub lined : length lines ≡ length words
   pub table : take (slice_index words 0) lines ≡ replicate (slice_index words 0) 0
-  pub runs : (n : ℕ) → RunsAsMeant source words lines n
+  pub runs : (m : State) (n : ℕ) → IsStarted source.project words m → RunsAsMeant source lines m n
 
 -- A program of a sound source all of whose forms are compiled: its words have 16 bits, fit the node and are code of the source, and its variables lie in the
 -- layout.

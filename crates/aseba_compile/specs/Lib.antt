@@ -1,6 +1,9 @@
 pub mod Checking
 pub mod Compiled
+pub mod CoreOf
+pub mod Meaning
 pub mod Reading
+pub mod Refused
 pub mod Standing
 pub mod Straight
 pub mod StraightAnswer

@@ -5,7 +5,8 @@ use Rattle.aseba_tree.specs.View.{core_view}
 use Rattle.aseba_tree.specs.State.{Program}
 use Rattle.aseba_compile.specs.declared.refusal.Refusal.{Refusal}
 use Rattle.aseba_compile.specs.declared.refusal.Refusal.TheVariants.{NotBuilt, Mem}
-use Rattle.aseba_compile.specs.Straight.{has_only_built_forms, straight_core}
+use Rattle.aseba_compile.specs.Straight.{has_only_built_forms}
+use Rattle.aseba_compile.specs.CoreOf.{straight_core}
 use Rattle.aseba_compile.specs.StraightRun.{HasCellConstants}
 
 -- The core of a source that has only built forms; or that it has others.

@@ -5,7 +5,7 @@ ghost use Rattle.aseba_tree.specs.View.{project_view, source_view};
 ghost use Rattle.aseba_check.specs.Accepted.{IsChecked};
 ghost use Rattle.aseba_check.specs.Refused.{program_in};
 ghost use Rattle.aseba_compile.specs.Compiled.{IsCompiled, IsProgram, IsRefused};
-ghost use Rattle.aseba_compile.specs.StraightWords.{IsTreeRefused};
+ghost use Rattle.aseba_compile.specs.Refused.{IsTreeRefused};
 
 use crate::program::Program;
 use crate::reading::read;
