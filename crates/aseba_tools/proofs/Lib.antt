@@ -1,7 +1,6 @@
 pub mod Alike
 pub mod InRun
 pub mod Loading
-pub mod Nodes
 pub mod Outputs
 pub mod Pages
 pub mod Projects

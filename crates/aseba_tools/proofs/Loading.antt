@@ -6,7 +6,7 @@ use Rattle.aseba_vm.specs.declared.refusals.OutOfCode.{OutOfCode}
 use Rattle.aseba_vm.specs.declared.shape.Shape.{Shape}
 use Rattle.aseba_vm.specs.State.{State}
 use Rattle.aseba_vm.specs.Loaded.{made, loaded, reset_state}
-use Rattle.aseba_codegen.specs.Table.{shape_of, started}
+use Rattle.aseba_target.specs.Node.{shape_of, started}
 
 pub made-shape : (shape : Shape) (id : ℕ) → (made shape id).shape ≡ shape
 unfolding made

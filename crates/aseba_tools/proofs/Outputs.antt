@@ -11,7 +11,9 @@ use Rattle.aseba_tree.specs.Layout as tree
 use Rattle.aseba_tree.specs.Layout.{placed_from, layout}
 use Rattle.aseba_tree.specs.State as meaning
 use Rattle.aseba_tree.specs.State.{node_variables, declared}
-use Rattle.aseba_codegen.specs.Table.{layout_of, table_lines}
+use Rattle.aseba_target.specs.Node.{layout_of, started}
+use Rattle.aseba_target.specs.MachineRun.{machine_lines}
+use Rattle.aseba_target.proofs.Started.{started_begun}
 use Rattle.aseba_tree.specs.declared.placed.Placed.{Placed}
 use Rattle.aseba_compile.specs.declared.program.Program.{Program}
 use Rattle.aseba_compile.specs.Compiled.{IsProgram, IsCompiled}
@@ -76,16 +78,17 @@ without-lined f (x ∷ xs) = rw (bare f x, without-lined f xs) refl
 meant : (source : meaning.Program) (program : Program) (ticks : ℕ) → IsProgram source program → IsMeant source ticks (sim_text source.project program ticks)
 meant source program ticks is =
     let words = program.image.words in
-    let runs = is.code.runs ticks in
+    let machine = started source.project words in
+    let runs = is.code.runs machine ticks (started_begun source.project words is.fits) in
     record {
       words = words;
       are_words = is.words;
       fits = is.fits;
       text_is =
-          ap (λ l. code_line words ++ told_text program.image.lines (table_lines source.project l words [] ticks)) (layouts source program is)
+          ap (λ l. code_line words ++ told_text program.image.lines (machine_lines source.project l machine [] ticks)) (layouts source program is)
           ∙ ap (λ t. code_line words ++ lines_text t) runs.lines_same;
       paced = runs.paced;
-      alike = sym (without-lined _ (table_lines source.project (layout_of source) words [] ticks)) ∙ ap without_lines runs.lines_same;
+      alike = sym (without-lined _ (machine_lines source.project (layout_of source) machine [] ticks)) ∙ ap without_lines runs.lines_same;
       lines = program.image.lines;
       code = is.code;
     }

@@ -3,7 +3,7 @@ use Rattle.std.proofs.Common.{◌≡◌, ℕ, suc, ◌+◌, ◌<◌, ℤ, List, 
 use Rattle.aseba_edge.specs.Sink.{Took, TookFirst}
 use Rattle.aseba_edge.proofs.Puts.{first_of_more}
 use Rattle.aseba_tree.specs.Line.{lines_text}
-use Rattle.aseba_codegen.specs.Table.{var_lines}
+use Rattle.aseba_tools.specs.SimText.{var_lines}
 use Rattle.aseba_tree.specs.declared.placed.Placed.{Placed}
 use Rattle.aseba_tree.specs.View.{placed_view}
 use Rattle.aseba_tools.proofs.Writing.{lines_text-append, took_after, first_after}

@@ -3,7 +3,6 @@ pub mod DumpText
 pub mod Dumped
 pub mod FileText
 pub mod Meant
-pub mod Node
 pub mod Outcome
 pub mod Page
 pub mod ProjectWord

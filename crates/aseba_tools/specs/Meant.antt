@@ -3,11 +3,13 @@ use Rattle.std.specs.Prelude.{◌≡◌, ℕ, ◌<◌, ◌≤◌, true, All, ◌
 use Rattle.aseba_edge.specs.Sink.{Took, TookFirst}
 use Rattle.aseba_tree.specs.Code.{Project, Source}
 use Rattle.aseba_tree.specs.Line.{Line, line_by, lines_text}
-use Rattle.aseba_tree.specs.Lines.{lines_of, Paced}
+use Rattle.aseba_tree.specs.Run.{Paced}
+use Rattle.aseba_tree.specs.Lines.{source_lines, source_moments}
 use Rattle.aseba_tree.specs.Numbers.{source_weight}
 use Rattle.aseba_tree.specs.State.{Program}
 use Rattle.aseba_tree.specs.Soundness.{Sound}
-use Rattle.aseba_codegen.specs.Table.{layout_of, table_lines, table_beats}
+use Rattle.aseba_target.specs.Node.{layout_of, started}
+use Rattle.aseba_target.specs.MachineRun.{machine_lines, machine_beats}
 use Rattle.aseba_compile.specs.declared.refusal.Refusal.{Refusal}
 use Rattle.aseba_compile.specs.declared.refusal.Refusal.TheVariants.{Mem}
 use Rattle.aseba_compile.specs.Compiled.{IsCodeOf, IsRefused}
@@ -28,9 +30,10 @@ pub record IsMeant (program : Program) (ticks : ℕ) (text : List ℕ) : Type 0 
   pub words : List ℕ
   pub are_words : All (λ word. word < 65536) words
   pub fits : length words ≤ program.project.node.code
-  pub text_is : text ≡ code_line words ++ lines_text (lines_of program [] (table_beats program.project (layout_of program) words [] ticks))
-  pub paced : Paced (source_weight program) program [] (table_beats program.project (layout_of program) words [] ticks)
-  pub alike : without_lines (table_lines program.project (layout_of program) words [] ticks) ≡ without_lines (lines_of program [] (table_beats program.project (layout_of program) words [] ticks))
+  pub text_is : text ≡ code_line words ++ lines_text (source_lines program [] (machine_beats program.project (layout_of program) (started program.project words) [] ticks))
+  pub paced : Paced (source_weight program) (source_moments program [] (machine_beats program.project (layout_of program) (started program.project words) [] ticks))
+  pub alike : without_lines (machine_lines program.project (layout_of program) (started program.project words) [] ticks)
+      ≡ without_lines (source_lines program [] (machine_beats program.project (layout_of program) (started program.project words) [] ticks))
   pub lines : List ℕ
   pub code : IsCodeOf program words lines
 

@@ -1,10 +1,13 @@
 -- What `sim` writes.
-use Rattle.std.specs.Prelude.{◌≡◌, ℕ, ℤ, ◌++◌, codes, List, [], ◌∷◌, drop, map, length, slice_index}
+use Rattle.std.specs.Prelude.{◌≡◌, false, ℕ, ℤ, ◌++◌, codes, List, [], ◌∷◌, drop, map, length, slice_index}
 use Rattle.aseba_tree.specs.Code.{Project}
-use Rattle.aseba_tree.specs.Layout.{placed_from}
-use Rattle.aseba_tree.specs.Line.{Line, line_by, code_text, lines_text, end}
+use Rattle.aseba_tree.specs.Layout.{placed_from, cells_at}
+use Rattle.aseba_tree.specs.Line.{Line, line_by, code_text, lines_text, var, end}
 use Rattle.aseba_vm.specs.State.{State}
-use Rattle.aseba_codegen.specs.Table.{Layout, Run, ticking, all_ticking, beginning, var_lines, ended_lines, table_lines}
+use Rattle.aseba_tree.specs.Layout as tree
+use Rattle.aseba_tree.specs.Run.{System, Run, begin, ticks, ticking, tick_lines, lines_from}
+use Rattle.aseba_target.specs.Node.{Layout, started}
+use Rattle.aseba_target.specs.MachineRun.{machine_system, machine_run, machine_lines}
 use Rattle.aseba_tree.specs.declared.placed.Placed.{Placed}
 use Rattle.aseba_compile.specs.declared.program.Program.{Program}
 use Rattle.aseba_tree.specs.View.{placed_view}
@@ -22,34 +25,41 @@ layout_with project program = record { node = placed_from 0 project.node.variabl
 abbrev pub told_text : List ℕ → List Line → List ℕ
 told_text lines told = lines_text (map (line_by (slice_index lines)) told)
 
--- a run that has told nothing so far, at a moment
-abbrev pub silent : Moment → State → Run
-silent moment machine = record { ticks = moment.ticks; effects = moment.effects; machine = machine; lines = [] }
+-- the node's machine as a system, with the variables of a program
+abbrev pub system_of : Project → Program → System State
+system_of project program = machine_system project (layout_with project program)
 
--- that run after a tick
-abbrev pub after_tick : Project → Layout → Moment → State → Run
-after_tick project layout moment machine = ticking project layout [] (silent moment machine)
+-- a run at a moment, with a machine
+abbrev pub at_moment : Moment → State → Run State
+at_moment moment machine = record { ticks = moment.ticks; effects = moment.effects; state = machine }
 
 -- a run is at this moment, with this machine
-pub record IsAt (run : Run) (moment : Moment) (machine : State) : Type 0 where
+pub record IsAt (run : Run State) (moment : Moment) (machine : State) : Type 0 where
   pub ticks : run.ticks ≡ moment.ticks
   pub effects : run.effects ≡ moment.effects
-  pub machine_is : run.machine ≡ machine
+  pub machine_is : run.state ≡ machine
 
--- the run of so many ticks of a machine
-abbrev pub ticks_of : Project → Layout → ℕ → State → Run
-ticks_of project layout ticks machine = all_ticking project layout [] ticks (beginning machine)
+-- the run behind a tick, and behind so many ticks of a machine
+abbrev pub after_tick : Project → Program → Moment → State → Run State
+after_tick project program moment machine = ticking (system_of project program) [] (at_moment moment machine) false
+
+abbrev pub after_ticks : Project → Program → ℕ → State → Run State
+after_ticks project program n machine = machine_run project (layout_with project program) machine [] n
 
 -- what a tick of a program tells at a moment, and what so many ticks tell
 abbrev pub tick_text : Project → Program → Moment → State → List ℕ
-tick_text project program moment machine = told_text program.image.lines (after_tick project (layout_with project program) moment machine).lines
+tick_text project program moment machine = told_text program.image.lines (tick_lines (system_of project program) [] (at_moment moment machine) false)
 
 abbrev pub ticks_text : Project → Program → ℕ → State → List ℕ
-ticks_text project program ticks machine = told_text program.image.lines (ticks_of project (layout_with project program) ticks machine).lines
+ticks_text project program n machine = told_text program.image.lines (lines_from (system_of project program) [] (begin machine) (ticks n))
 
 -- the last line
 abbrev pub end_text : Moment → List ℕ
 end_text moment = lines_text (end moment.ticks moment.effects ∷ [])
+
+-- the lines of placed variables
+abbrev pub var_lines : List ℤ → List tree.Placed → List Line
+var_lines cells places = map (λ v. var v.0 v.1) (cells_at cells places)
 
 -- the lines of the variables and the last one
 abbrev pub ending_text : List Placed → List ℤ → Moment → List ℕ
@@ -57,7 +67,7 @@ ending_text own cells moment = lines_text (var_lines cells (map placed_view own)
 
 -- what a run of so many ticks tells and leaves
 abbrev pub run_text : Project → Program → ℕ → State → List ℕ
-run_text project program ticks machine = told_text program.image.lines (ended_lines (layout_with project program) (ticks_of project (layout_with project program) ticks machine))
+run_text project program n machine = told_text program.image.lines (machine_lines project (layout_with project program) machine [] n)
 
 -- the line of the words
 abbrev pub code_line : List ℕ → List ℕ
@@ -65,5 +75,4 @@ code_line words = code_text words ++ codes "\n"
 
 -- the line of the words, and then the lines of the machine's run of them
 abbrev pub sim_text : Project → Program → ℕ → List ℕ
-sim_text project program ticks =
-    code_line program.image.words ++ told_text program.image.lines (table_lines project (layout_with project program) program.image.words [] ticks)
+sim_text project program n = code_line program.image.words ++ run_text project program n (started project program.image.words)

@@ -7,7 +7,6 @@ mod file;
 mod frames;
 mod lines;
 mod natives;
-mod node;
 mod project;
 mod putting;
 mod running;

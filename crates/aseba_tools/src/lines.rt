@@ -1,13 +1,13 @@
 //! The lines that a run tells, each as a text with its line end.
 
-ghost use Rattle.std.specs.Prelude.{◌≡◌, ◌∷◌, [], ◌++◌, map, slice_index, take, drop, decimal, codes, IfOk, OnOk};
+ghost use Rattle.std.specs.Prelude.{◌≡◌, ◌∷◌, [], ◌++◌, map, option_to_list, slice_index, take, drop, decimal, codes, IfOk, OnOk};
 ghost use Rattle.std.specs.Fmt.{signed_decimal};
 ghost use Rattle.aseba_tree.specs.Line.{blank_number, blank_cells, event_text, lines_text, told, sent, bounds, division, end};
 ghost use Rattle.aseba_vm.specs.declared.tick.Tick.TheVariants.{Sent};
-ghost use Rattle.aseba_codegen.specs.Table.{tick_reports, var_lines};
+ghost use Rattle.aseba_target.specs.MachineRun.{tick_report};
 ghost use Rattle.aseba_tree.specs.Events.{event_of};
 ghost use Rattle.aseba_tree.specs.View.{project_view, placed_view};
-ghost use Rattle.aseba_tools.specs.SimText.{code_line, told_text};
+ghost use Rattle.aseba_tools.specs.SimText.{code_line, told_text, var_lines};
 
 use aseba_check::Placed;
 use aseba_text::Text;
@@ -44,7 +44,7 @@ pub fn notice_line(
     notice: Notice,
     cells: &[i16],
 ) -> Result<Text, Mem>
-    ensures { IfOk result (λ text. text ≡ told_text lines.now (map (told moment.ticks moment.effects) (tick_reports (project_view project.now) cells.now (Sent notice)))) }
+    ensures { IfOk result (λ text. text ≡ told_text lines.now (map (told moment.ticks moment.effects) (option_to_list (tick_report (project_view project.now) cells.now (Sent notice))))) }
 {
     match notice {
         Notice::Emit { event, start, len } => emit_line(

@@ -1,35 +1,39 @@
 //! The run of a program's words, written line by line.
 
-ghost use Rattle.std.specs.Prelude.{◌≡◌, map, ◌+◌, ◌<◌, ◌≤◌, length, ◌^◌, ◌++◌, IfOk, OnOk, OnErr, if◌then◌else◌};
+ghost use Rattle.std.specs.Prelude.{◌≡◌, map, ◌<◌, ◌≤◌, length, ◌^◌, ◌++◌, IfOk, OnOk, OnErr};
 ghost use Rattle.aseba_edge.specs.Counts.{Counts};
 ghost use Rattle.aseba_edge.specs.Sink.{Took, TookFirst};
 ghost use Rattle.aseba_tree.specs.Line.{lines_text};
-ghost use Rattle.aseba_codegen.specs.Table.{is_effect, started, var_lines};
+ghost use Rattle.aseba_tree.specs.Run.{counted};
+ghost use Rattle.aseba_target.specs.MachineRun.{is_effect};
+ghost use Rattle.aseba_target.specs.Node.{started};
 ghost use Rattle.aseba_tools.specs.Unwritten.{is_write_fault};
 ghost use Rattle.aseba_tree.specs.View.{placed_view, project_view};
-ghost use Rattle.aseba_tools.specs.SimText.{after_tick, code_line, end_text, ending_text, layout_with, own_places, run_text, sim_text, tick_text, ticks_of, ticks_text, IsAt};
+ghost use Rattle.aseba_tools.specs.SimText.{after_tick, after_ticks, code_line, end_text, ending_text, own_places, run_text, sim_text, tick_text, ticks_text, var_lines, IsAt};
 ghost use Rattle.aseba_tree.specs.Inside.{InsideProject};
 
 use crate::lines::{Moment, end_line, notice_line, var_line, words_line};
-use crate::node;
 use crate::putting::{Unwritten, put_text};
 use aseba_check::Placed;
 use aseba_compile::Program;
 use aseba_edge::Sink;
+use aseba_target::shape;
 use aseba_tree::Project;
 use aseba_vm::{Machine, Tick};
 use aseba_words::Mem;
 use std::alloc::Global;
 
-/// How many effects a tick is, where the variables have so many cells: a store behind them is none.
-fn effects_of(cells: u64, tick: Tick) -> u64
-    ensures { result ≡ (if is_effect cells tick then 1 else 0) }
+/// The effects up to a tick, where the variables have so many cells: a store behind them is none.
+fn effects_with(cells: u64, tick: Tick, effects: u64) -> u64
+    requires { effects < 2 ^ 63 }
+    ensures { result ≡ counted (is_effect cells tick) effects }
 {
-    match tick {
-        Tick::Stored { address } => u64::from(u64::from(address) < cells),
-        Tick::Effect | Tick::Sent(_) => 1,
-        Tick::Idle | Tick::Paused | Tick::Quiet => 0,
-    }
+    let counts = match tick {
+        Tick::Stored { address } => u64::from(address) < cells,
+        Tick::Effect | Tick::Sent(_) => true,
+        Tick::Idle | Tick::Paused | Tick::Quiet => false,
+    };
+    if counts { effects + 1 } else { effects }
 }
 
 /// Does one tick and writes its line, if it has one.
@@ -43,14 +47,14 @@ fn tick<S: Sink>(
 ) -> Result<Moment, Unwritten>
     requires ticks { moment.ticks < 2 ^ 63 }
     requires effects { moment.effects < 2 ^ 63 }
-    ensures next { IfOk result (λ next. IsAt (after_tick (project_view project.now) (layout_with (project_view project.now) program.now) moment machine.old) next machine.new) }
+    ensures next { IfOk result (λ next. IsAt (after_tick (project_view project.now) program.now moment machine.old) next machine.new) }
     ensures whole { OnOk result (Took (S.taken out.old) (tick_text (project_view project.now) program.now moment machine.old) (S.taken out.new)) }
     ensures part { OnErr result (TookFirst (S.taken out.old) (tick_text (project_view project.now) program.now moment machine.old) (S.taken out.new)) }
     ensures count { Counts (is_write_fault result) (S.faults out.old) (S.faults out.new) }
 {
     let answer = machine.tick();
     let cells = u64::from(program.image.temp_start);
-    let effects = moment.effects + effects_of(cells, answer);
+    let effects = effects_with(cells, answer, moment.effects);
     if let Tick::Sent(notice) = answer {
         let now = Moment {
             ticks: moment.ticks,
@@ -76,7 +80,7 @@ fn run_ticks<S: Sink>(
     ticks: u32,
     out: &mut S,
 ) -> Result<Moment, Unwritten>
-    ensures end { IfOk result (λ end. IsAt (ticks_of (project_view project.now) (layout_with (project_view project.now) program.now) ticks machine.old) end machine.new) }
+    ensures end { IfOk result (λ end. IsAt (after_ticks (project_view project.now) program.now ticks machine.old) end machine.new) }
     ensures whole { OnOk result (Took (S.taken out.old) (ticks_text (project_view project.now) program.now ticks machine.old) (S.taken out.new)) }
     ensures part { OnErr result (TookFirst (S.taken out.old) (ticks_text (project_view project.now) program.now ticks machine.old) (S.taken out.new)) }
     ensures count { Counts (is_write_fault result) (S.faults out.old) (S.faults out.new) }
@@ -202,7 +206,7 @@ fn loaded_machine(alloc: Global, project: &Project, words: &[u16]) -> Result<Mac
     requires fits { length words.now ≤ project.now.node.code }
     ensures { IfOk result (λ machine. machine ≡ started (project_view project.now) words.now) }
 {
-    let mut machine = Machine::new(alloc, &node::shape(project), project.id)?;
+    let mut machine = Machine::new(alloc, &shape(project), project.id)?;
     match machine.load(0, words) {
         Ok(()) => {}
         Err(_) => unreachable!(),

@@ -2,9 +2,9 @@ use Rattle.std.proofs.Common.{subst, sym, ◌∙◌, ap, false}
 use Rattle.aseba_tree.specs.View.{project_view}
 use Rattle.aseba_vm.specs.State.{State, NamesInside}
 use Rattle.aseba_vm.specs.Loaded.{made, loaded, reset_state}
-use Rattle.aseba_codegen.specs.Table.{shape_of}
+use Rattle.aseba_target.specs.Node.{shape_of}
 use Rattle.aseba_tools.proofs.Loading.{never_refused, started-is}
-use Rattle.aseba_tools.proofs.Nodes.{names_inside}
+use Rattle.aseba_target.proofs.Nodes.{names_inside}
 use Rattle.aseba_tools.proofs.running.loaded_machine.Goals as goal
 
 pub new-requires : goal.new-requires

@@ -1,7 +1,7 @@
 use Rattle.std.proofs.Common.{◌≡◌, List, ℕ, ◌++◌, drop, map}
 use Rattle.aseba_edge.specs.Sink.{Took}
 use Rattle.aseba_tree.specs.Line.{lines_text}
-use Rattle.aseba_codegen.specs.Table.{var_lines}
+use Rattle.aseba_tools.specs.SimText.{var_lines}
 use Rattle.aseba_tree.specs.View.{placed_view}
 use Rattle.aseba_tools.proofs.running.put_variables.Given as goal
 
