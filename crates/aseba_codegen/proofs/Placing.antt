@@ -164,7 +164,7 @@ module _ (program : CoreProgram) (code : List Coded) (weight : ℕ) (site : Site
       let on : (k : List ℕ) (w : ℕ) → is_good_list program.project program.core k ss ≡ true → core_list_weight program.core.cells ss w ≤ weight → (is_last ss ≡ true → w ≡ 0) → Placed program code weight limit (core_tasks (before + core_whens (core_stmt line form)) ss ++ rest) there k w =
       λ k w good_rest light_rest ends_rest. placed-list ss (before + core_whens (core_stmt line form)) there k w good_rest numbers_rest straight_rest lined_rest (omega arith) light_rest stands_rest ends_rest behind_rest in
       let light_by : (o : Option ℕ) → kept_nodes program.core.cells form ≡ o
-          → max (max (weight_behind weighs o form) (inner_weight program.core.cells form)) (core_list_weight program.core.cells ss (kept_with weighs o)) ≤ weight =
+      → max (max (weight_behind weighs o form) (inner_weight program.core.cells form)) (core_list_weight program.core.cells ss (kept_with weighs o)) ≤ weight =
       λ o e. subst (λ o. max (max (weight_behind weighs o form) (inner_weight program.core.cells form)) (core_list_weight program.core.cells ss (kept_with weighs o)) ≤ weight) e light in
       elim (kept-case program.core line form) [
         | inl c ↦
