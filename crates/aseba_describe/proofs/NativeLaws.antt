@@ -17,8 +17,8 @@ use Rattle.aseba_describe.specs.Reading.{is_zero, param_of, next_of, params_of, 
 use Rattle.aseba_text.proofs.Options.{when_takes, when_true, bind_takes, bind_some, some_is}
 use Rattle.aseba_text.proofs.NumberLaws.{same_is}
 use Rattle.aseba_text.proofs.FieldLaws.{cut_takes, cut_again}
-use Rattle.aseba_describe.proofs.Spelled.{name_has_no_blank, name_again, short_is, short_text}
-use Rattle.aseba_text.proofs.CellLaws.{cell_again, cell_takes, cell_has_no_blank, cell_is_no_end, leb_from, leb_to}
+use Rattle.aseba_describe.proofs.Spelled.{name_has_no_blank, name_again, short_is, short_text, cell_is_no_end}
+use Rattle.aseba_text.proofs.CellLaws.{cell_again, cell_takes, cell_has_no_blank, leb_from, leb_to}
 
 -- a parameter that may stand in a line
 pub record GoodParam (p : Param) : Type 0 where

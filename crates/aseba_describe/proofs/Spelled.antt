@@ -1,19 +1,22 @@
 -- Each field is read from its spelling, and what is read is spelled so.
-use Rattle.std.proofs.Common.{◌≡◌, ℕ, ◌<◌, ◌^◌, Bool, true, List, [], ◌∷◌, ◌++◌, refl, sym, ap, ◌∙◌, subst, append_assoc, codes, decimal, Some}
+use Rattle.std.proofs.Common.{◌≡◌, ℕ, ℤ, pos, negsuc, ◌<◌, ◌≤◌, ◌≢◌, ◌^◌, Bool, true, false, List, [], ◌∷◌, ◌++◌, length, get_or, refl, sym, ap, ◌∙◌, subst, arith, append_assoc, codes, decimal, Some}
 use Rattle.std.specs.Fmt.{signed_decimal}
+use Rattle.std.proofs.lemmas.Fmt.{decimal_is_IsNumeral}
+use Rattle.std.proofs.lemmas.Int.{ints}
 use Rattle.aseba_tree.specs.Inside.{IsFrom, IsShort}
 use Rattle.aseba_tree.specs.declared.description.Sized.{Sized}
 use Rattle.aseba_tree.specs.declared.description.Local.{Local}
 use Rattle.aseba_tree.specs.declared.project.Const.{Const}
 use Rattle.aseba_words.specs.Bytes.{is_name_start, is_word_byte}
 use Rattle.aseba_tree.specs.Tokens.{is_name}
-use Rattle.aseba_text.specs.Names.{is_text}
+use Rattle.aseba_text.specs.Names.{is_text, is_same}
 use Rattle.aseba_text.specs.Fields.{cut, has_no_blank}
 use Rattle.aseba_text.specs.Numbers.{IsCell}
 use Rattle.aseba_describe.specs.Reading.{name_of, sized_of, local_of, const_of}
 use Rattle.aseba_text.proofs.Options.{when_takes, when_true, and_takes, and_true, bind_takes, bind_some, some_is}
+use Rattle.aseba_text.proofs.NumberLaws.{same_is}
 use Rattle.aseba_text.proofs.FieldLaws.{other, others, cut_takes, cut_again}
-use Rattle.aseba_text.proofs.CellLaws.{leb_to, number_from_again, number_from_takes, cell_again, cell_takes}
+use Rattle.aseba_text.proofs.CellLaws.{leb_to, number_from_again, number_from_takes, cell_again, cell_takes, no_other}
 
 pub name_has_no_blank : (name : List ℕ) → is_name name ≡ true → has_no_blank name ≡ true
 name_has_no_blank [] h = refl
@@ -109,3 +112,18 @@ short_is name h = leb_to _ _ (and_takes _ _ (and_takes _ _ h).0).0
 
 pub short_text : (text : List ℕ) → is_text text ≡ true → IsShort text
 short_text text h = leb_to _ _ (and_takes _ _ h).0
+
+not_semicolon : (ds : List ℕ) → 0 < length ds → get_or ds 0 0 ≢ 59 → is_same ds (codes ";") ≡ false
+not_semicolon ds h other = by (is_same ds (codes ";")) refl
+  where
+    by : (t : Bool) → is_same ds (codes ";") ≡ t → t ≡ false
+    by true e = absurd (other (ap (λ l. get_or l 0 0) (same_is ds (codes ";") e)))
+    by false e = refl
+
+-- a size isn't the `;` behind the parameters
+pub cell_is_no_end : (z : ℤ) → IsCell z → is_same (signed_decimal z) (codes ";") ≡ false
+cell_is_no_end (pos n) h =
+    let small : n ≤ 32767 = omega (arith, ints, h.1) in
+    let some : 0 < length (decimal n) = (decimal_is_IsNumeral n (omega arith)).0.0 in
+    not_semicolon (decimal n) some (no_other n 59 (omega arith) (λ r. omega (arith, r.1)) 0 some)
+cell_is_no_end (negsuc k) h = refl
