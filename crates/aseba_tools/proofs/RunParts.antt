@@ -25,7 +25,7 @@ run_parts project program n first machine moment at =
     let told : List Line = lines_from (system_of project program) [] (begin first) (ticks n) in
     ap (λ t. told_text program.image.lines told ++ t) (ending-told program.image.lines own machine.cells moment)
     ∙ sym (told_text-append program.image.lines told (var_lines machine.cells own ++ end moment.ticks moment.effects ∷ []))
-    ∙ (λ i. told_text program.image.lines (told ++ var_lines (sym at.machine_is i).cells own ++ end (sym at.ticks i) (sym at.effects i) ∷ []))
+    ∙ (λ i. told_text program.image.lines (told ++ (var_lines (sym at.machine_is i).cells own ++ end (sym at.ticks i) (sym at.effects i) ∷ [])))
 
 -- the lines of the ticks begin what the run tells
 pub run_begins : (project : Project) (program : Program) (n : ℕ) (first : State)
