@@ -16,10 +16,12 @@ use Rattle.aseba_vm.specs.Lists.{handler_of}
 use Rattle.aseba_vm.specs.Loaded.{reset_state, fresh_cells}
 use Rattle.aseba_target.specs.Node.{shape_of, IsStarted}
 use Rattle.aseba_codegen.specs.declared.coded.Coded.{Coded}
-use Rattle.aseba_codegen.specs.Words.{Site, on_line, instruction, store_code, site_of, form_code, list_code, body_code, init_code, init_start, part_starts, table_of, table_code, core_code, code_words}
-use Rattle.aseba_codegen.specs.Agrees.{IsStraightCore, truths, is_straight, is_straight_form}
+use Rattle.aseba_codegen.specs.Places.{places_in, edge_places, HasBits}
+use Rattle.aseba_codegen.specs.Words.{Site, on_line, store_code, site_of, form_code, list_code, body_code, init_code, init_start, part_starts, table_of, table_code, core_code, code_words}
+use Rattle.aseba_codegen.specs.Agrees.{IsStraightCore, is_straight, is_straight_form}
 use Rattle.aseba_tree.specs.CoreCells.{list_has_cells}
 use Rattle.aseba_tree.specs.CoreLines.{list_is_lined}
+use Rattle.aseba_vm.specs.Words.{end_word, emit_word}
 use Rattle.aseba_codegen.proofs.Reach.{Lined, Stands, stands-split, stands-lined}
 use Rattle.aseba_codegen.proofs.Values.{and-left, and-right}
 use Rattle.aseba_codegen.proofs.Lengths.{code-long}
@@ -46,14 +48,17 @@ no_edge-line : (line : ℕ) (ws : List ℕ) → NoEdge (on_line line ws)
 no_edge-line line [] = tt
 no_edge-line line (w ∷ ws) = (refl, no_edge-line line ws)
 
-no_edge-truths : (code : List Coded) (memory : List ℕ) → NoEdge code → truths code memory ≡ []
-no_edge-truths [] memory h = refl
-no_edge-truths (c ∷ code) [] h = refl
-no_edge-truths (c ∷ code) (w ∷ memory) h = rw (h.0) (no_edge-truths code memory h.1)
+no_edge-places : (at : ℕ) (code : List Coded) → NoEdge code → places_in at code ≡ []
+no_edge-places at [] h = refl
+no_edge-places at (c ∷ code) h = rw (h.0) (no_edge-places (at + 1) code h.1)
+
+no_bits : (code : List Coded) (memory : List ℕ) (places : List ℕ) (many : ℕ) → places ≡ [] → many ≡ 0 → HasBits code memory places (replicate many false)
+no_bits code memory places many none zero_many =
+    subst (λ ps. HasBits code memory ps (replicate many false)) (sym none) (subst (λ n. HasBits code memory [] (replicate n false)) (sym zero_many) tt)
 
 no_edge-form : (site : Site) (line : ℕ) (form : CoreForm) → is_straight_form form ≡ true → NoEdge (form_code site line form)
 no_edge-form site line (store t e) h = no_edge-line line (store_code t e)
-no_edge-form site line (send event address count) h = no_edge-line line (instruction 11 event ∷ address ∷ count ∷ [])
+no_edge-form site line (send event address count) h = no_edge-line line (emit_word event ∷ address ∷ count ∷ [])
 no_edge-form site line (branch c body other) h = absurd (true≢false (sym h))
 no_edge-form site line (on_edge c body) h = absurd (true≢false (sym h))
 no_edge-form site line (loop c body) h = absurd (true≢false (sym h))
@@ -202,10 +207,11 @@ module _ (project : Project) (variables : List Sized) (init : CoreStmts) (cells 
       by_test true = refl
       by_test false = refl
 
-  no_edge : is_straight init ≡ true → NoEdge (core_code project alone)
-  no_edge straight =
-      let body : NoEdge (init_code project (part_starts project alone) alone) = no_edge-append (list_code site init) (on_line 1 (instruction 0 0 ∷ [])) (no_edge-list site init straight) (no_edge-line 1 (instruction 0 0 ∷ [])) in
-      subst NoEdge (sym code-is) (no_edge-append (table_code project alone) (init_code project (part_starts project alone) alone ++ []) (no_edge-line 0 (table_of (init_start project alone) [])) (no_edge-append (init_code project (part_starts project alone) alone) [] body tt))
+  -- straight code has no places to remember
+  no_places : is_straight init ≡ true → edge_places project alone ≡ []
+  no_places straight =
+      let init_edges : NoEdge (init_code project (part_starts project alone) alone) = no_edge-append (list_code site init) (on_line 1 (end_word ∷ [])) (no_edge-list site init straight) (no_edge-line 1 (end_word ∷ [])) in
+      ap (λ places. places ++ []) (no_edge-places (init_start project alone) (init_code project (part_starts project alone) alone) init_edges)
 
   stands-init : Stands (core_code project alone) 3 (body_code site 1 init)
   stands-init = rw code-is (stands-at (table_code project alone) (init_code project (part_starts project alone) alone) [])
@@ -220,8 +226,8 @@ module _ (project : Project) (variables : List Sized) (init : CoreStmts) (cells 
       let lined : list_is_lined cells init ≡ true = and-left (list_is_lined cells init) true shape.lined in
       let deep : core_list_depth subs init ≤ project.node.stack = let a = shape.has_depth in let b = h.depth in omega arith in
       let light : core_list_weight cells init 0 ≤ core_weight alone = omega arith in
-      let split = stands-split (core_code project alone) 3 (list_code site init) (on_line 1 (instruction 0 0 ∷ [])) stands-init in
-      let last : Lined (core_code project alone) 1 (3 + length (list_code site init)) (instruction 0 0 ∷ []) = stands-lined (core_code project alone) 1 (3 + length (list_code site init)) (instruction 0 0 ∷ []) split.1 in
+      let split = stands-split (core_code project alone) 3 (list_code site init) (on_line 1 (end_word ∷ [])) stands-init in
+      let last : Lined (core_code project alone) 1 (3 + length (list_code site init)) (end_word ∷ []) = stands-lined (core_code project alone) 1 (3 + length (list_code site init)) (end_word ∷ []) split.1 in
       let least : 3 ≤ core_weight alone = let l = weight-least cells init 0 in omega arith in
       subst (λ n. Placed alone_program (core_code project alone) (core_weight alone) project.node.stack (core_tasks 0 init ++ finish_core 1 ∷ []) n [] 0) (sym start-is)
       (placed-list alone_program (core_code project alone) (core_weight alone) site project.node.stack subs (finish_core 1 ∷ []) init 0 3 [] 0 good numbers h.straight lined deep light split.0 (λ none. refl) (λ kept. (last, omega arith)))
@@ -257,7 +263,7 @@ module _ (project : Project) (variables : List Sized) (init : CoreStmts) (cells 
         held_long = length-replicate (length held) None ∙ held_many ∙ sym many;
         core_long = core_many;
         core_held_long = length-map {A = ℤ} {B = Option ℤ} (put_into o 0 (wrapped (pos project.id) ∷ []) (replicate (cells + room) (pos 0))) (λ v. None);
-        same_bits = no_edge-truths (core_code project alone) (code_words project alone ++ behind) (no_edge h.straight) ∙ sym (ap (λ n. replicate n false) bits_none);
+        same_bits = no_bits (core_code project alone) (code_words project alone ++ behind) (edge_places project alone) (whens_before alone 0) (no_places h.straight) bits_none;
         holds = λ at c found plain. holds-words (core_code project alone) behind at c found;
         same_active = refl;
         same_paused = refl;

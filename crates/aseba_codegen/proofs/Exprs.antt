@@ -6,20 +6,22 @@ use Rattle.std.specs.Prelude.{int_lt, ok_or}
 use Rattle.std.specs.Int.{cast_signed, cast_unsigned, w16}
 use Rattle.std.specs.Int.RustNames.{FitsSigned}
 use Rattle.aseba_words.specs.Cell.{unary_value, binary_value}
-use Rattle.aseba_words.specs.Codes.{unary_code, binary_code}
+use Rattle.aseba_words.specs.Codes.{binary_code}
 use Rattle.aseba_words.specs.declared.operators.Unary.{Unary}
 use Rattle.aseba_words.specs.declared.operators.Binary.{Binary}
 use Rattle.aseba_tree.specs.Value.{Stop, by_zero, outside, Element, and_then, place_among, unary_element, binary_element}
 use Rattle.aseba_tree.specs.CoreExpr.{CoreExpr, fixed, cell, indirect, prefix, infix_of, core_value}
 use Rattle.aseba_tree.specs.Numbers.{nodes, depth}
+use Rattle.aseba_vm.specs.declared.opcode.Opcode.TheVariants as opcode
 use Rattle.aseba_vm.specs.declared.tick.Tick.TheVariants.{Quiet, Sent}
 use Rattle.aseba_vm.specs.declared.tick.Notice.{Notice}
 use Rattle.aseba_vm.specs.declared.tick.Notice.TheVariants.{Bounds, Division}
 use Rattle.aseba_vm.specs.State.{State}
 use Rattle.aseba_vm.specs.Outcome.{index_in}
 use Rattle.aseba_vm.specs.Tick.{ticked}
+use Rattle.aseba_vm.specs.Words.{small_number_word, load_word, load_indirect_word, unary_word, binary_word}
 use Rattle.aseba_codegen.specs.declared.coded.Coded.{Coded}
-use Rattle.aseba_codegen.specs.Words.{instruction, twelve_bits, sixteen_bits, large_number_code, expr_code}
+use Rattle.aseba_codegen.specs.Words.{sixteen_bits, large_number_code, expr_code}
 use Rattle.aseba_codegen.specs.Agrees.{line_at}
 use Rattle.aseba_codegen.proofs.TickRows.{put, halted, Ready, NoCall, no-call, binary-low, small-tick, large-tick, load-tick, load_indirect-tick, load_outside-tick, unary-tick, binary-tick, divide-tick}
 use Rattle.aseba_codegen.proofs.Reach.{Holds, Lined, lined-split, line-of, lined-line, Reaches, one-quiet}
@@ -72,8 +74,8 @@ module _ (code : List Coded) (cells : ℕ) (G : State → Type 0) where
   ready-at m stack at line w runs found = record { active = runs.active; unpaused = runs.unpaused; at = runs.holds at _ found refl }
 
   number-run : (v : ℤ) (m : State) (stack : List ℤ) (at end line n b : ℕ) (big : Bool) → (int_lt v (negsuc 2047) || int_lt (pos 2047) v) ≡ big
-      → end ≡ at + length (if big then large_number_code v else instruction 1 (twelve_bits v) ∷ []) → n ≡ suc b
-      → Runs code m → FitsSigned w16 v → Lined code line at (if big then large_number_code v else instruction 1 (twelve_bits v) ∷ []) → line_at code end ≡ line
+      → end ≡ at + length (if big then large_number_code v else small_number_word v ∷ []) → n ≡ suc b
+      → Runs code m → FitsSigned w16 v → Lined code line at (if big then large_number_code v else small_number_word v ∷ []) → line_at code end ≡ line
       → length stack < m.shape.stack → Reaches code cells G b (put m (v ∷ stack) end) → Reaches code cells G n (put m stack at)
   number-run v m stack at end line n b false small ends ticks runs fits lined next room go =
       let here : line_at code at ≡ line = line-of code at _ lined.0 in
@@ -92,7 +94,7 @@ module _ (code : List Coded) (cells : ℕ) (G : State → Type 0) where
       (next ∙ sym here) go
 
   cell-run : (a : ℕ) (m : State) (stack : List ℤ) (at end line n b : ℕ) → end ≡ at + 1 → n ≡ suc b → Runs code m → a < length m.cells
-      → Lined code line at (instruction 3 a ∷ []) → line_at code end ≡ line → length stack < m.shape.stack
+      → Lined code line at (load_word a ∷ []) → line_at code end ≡ line → length stack < m.shape.stack
       → Reaches code cells G b (put m (slice_index_or m.cells a (pos 0) ∷ stack) end) → Reaches code cells G n (put m stack at)
   cell-run a m stack at end line n b ends ticks runs inside lined next room go =
       let here : line_at code at ≡ line = line-of code at _ lined.0 in
@@ -104,7 +106,7 @@ module _ (code : List Coded) (cells : ℕ) (G : State → Type 0) where
 
   -- the last words of an expression, with the elements of its operands
   unary-run : (op : Unary) (e : Element) (m : State) (stack : List ℤ) (at end line b : ℕ) → end ≡ at + 1 → Runs code m
-      → Lined code line at (instruction 7 (unary_code op) ∷ []) → line_at code end ≡ line
+      → Lined code line at (unary_word op ∷ []) → line_at code end ≡ line
       → Goes b m stack line end (unary_element op e) → Goes (suc b) m stack line at e
   unary-run op (Err s) m stack at end line b ends runs lined next go = go
   unary-run op (Ok v) m stack at end line b ends runs lined next go =
@@ -114,7 +116,7 @@ module _ (code : List Coded) (cells : ℕ) (G : State → Type 0) where
       (subst (λ k. ticked (put m (v ∷ stack) at) ≡ (Quiet, put m (unary_value op v ∷ stack) k)) (sym ends) tick) (next ∙ sym here) go
 
   operator-run : (op : Binary) (l r : ℤ) (o : Option ℤ) → binary_value op l r ≡ o → (m : State) (stack : List ℤ) (at end line b : ℕ) → end ≡ at + 1 → Runs code m
-      → Lined code line at (instruction 8 (binary_code op) ∷ []) → line_at code end ≡ line
+      → Lined code line at (binary_word op ∷ []) → line_at code end ≡ line
       → Goes b m stack line end (ok_or o by_zero) → Reaches code cells G (suc b) (put m (r ∷ l ∷ stack) at)
   operator-run op l r (Some v) e m stack at end line b ends runs lined next go =
       let here : line_at code at ≡ line = line-of code at _ lined.0 in
@@ -124,10 +126,10 @@ module _ (code : List Coded) (cells : ℕ) (G : State → Type 0) where
   operator-run op l r None e m stack at end line b ends runs lined next go =
       let here : line_at code at ≡ line = line-of code at _ lined.0 in
       inl (go (r ∷ l ∷ stack) at here (divide-tick (put m (r ∷ l ∷ stack) at) op l r stack refl (ready-at m (r ∷ l ∷ stack) at line _ runs lined.0) e)
-      (no-call (put m (r ∷ l ∷ stack) at) 8 (binary_code op) (binary-low op) (ready-at m (r ∷ l ∷ stack) at line _ runs lined.0) (λ project id. refl)))
+      (no-call (put m (r ∷ l ∷ stack) at) opcode.BinaryOperator (binary_code op) (binary-low op) (ready-at m (r ∷ l ∷ stack) at line _ runs lined.0) (λ project id. refl)))
 
   right-run : (op : Binary) (l : ℤ) (r : Element) (m : State) (stack : List ℤ) (at end line b : ℕ) → end ≡ at + 1 → Runs code m
-      → Lined code line at (instruction 8 (binary_code op) ∷ []) → line_at code end ≡ line
+      → Lined code line at (binary_word op ∷ []) → line_at code end ≡ line
       → Goes b m stack line end (binary_element op (Ok l) r) → Goes (suc b) m (l ∷ stack) line at r
   right-run op l (Err s) m stack at end line b ends runs lined next go = go
   right-run op l (Ok r) m stack at end line b ends runs lined next go = operator-run op l r (binary_value op l r) refl m stack at end line b ends runs lined next go
@@ -139,7 +141,7 @@ module _ (code : List Coded) (cells : ℕ) (G : State → Type 0) where
   left-run op (Ok v) r m stack at end line b k right go = right v go
 
   index-run : (base size : ℕ) (e : Element) (m : State) (stack : List ℤ) (at end line b : ℕ) → end ≡ at + 2 → Runs code m → base + size ≤ length m.cells → base < 4096
-      → Lined code line at (instruction 5 base ∷ size ∷ []) → line_at code end ≡ line
+      → Lined code line at (load_indirect_word base ∷ size ∷ []) → line_at code end ≡ line
       → Goes b m stack line end (and_then e (λ i. and_then (place_among size i) (λ place. Ok (slice_index_or m.cells (base + place) (pos 0)))))
       → Goes (suc b) m stack line at e
   index-run base size (Err s) m stack at end line b ends runs inside low lined next go = go
@@ -161,7 +163,7 @@ module _ (code : List Coded) (cells : ℕ) (G : State → Type 0) where
         | inr c ↦
             let on : Goes b m stack line end (Err (outside size i)) = subst (λ r. Goes b m stack line end (and_then r cell_at)) c.0 go in
             inl (on (i ∷ stack) at here (load_outside-tick (put m (i ∷ stack) at) base size i stack low refl (ready-at m (i ∷ stack) at line _ runs lined.0) second c.1)
-            (no-call (put m (i ∷ stack) at) 5 base low (ready-at m (i ∷ stack) at line _ runs lined.0) (λ project id. refl)))
+            (no-call (put m (i ∷ stack) at) opcode.LoadIndirect base low (ready-at m (i ∷ stack) at line _ runs lined.0) (λ project id. refl)))
       ]
 
   -- the code of an expression, from any stack with room
@@ -173,26 +175,26 @@ module _ (code : List Coded) (cells : ℕ) (G : State → Type 0) where
   expr-run (cell a) m stack at end line n b ends ticks runs sits lined next room go =
       cell-run a m stack at end line n b ends (omega arith) runs sits lined next (omega arith) go
   expr-run (prefix op e) m stack at end line n b ends ticks runs sits lined next room go =
-      let parts = lined-split code line at (expr_code e) (instruction 7 (unary_code op) ∷ []) lined in
+      let parts = lined-split code line at (expr_code e) (unary_word op ∷ []) lined in
       let middle : ℕ = at + length (expr_code e) in
-      let behind : end ≡ middle + 1 = omega (arith, length-append (expr_code e) (instruction 7 (unary_code op) ∷ [])) in
+      let behind : end ≡ middle + 1 = omega (arith, length-append (expr_code e) (unary_word op ∷ [])) in
       let there : line_at code middle ≡ line = line-of code middle _ parts.1.0 in
       expr-run e m stack at middle line n (suc b) refl (omega arith) runs sits parts.0 there room
       (unary-run op (core_value m.cells e) m stack middle end line b behind runs parts.1 next go)
   expr-run (indirect base size i) m stack at end line n b ends ticks runs sits lined next room go =
-      let parts = lined-split code line at (expr_code i) (instruction 5 base ∷ size ∷ []) lined in
+      let parts = lined-split code line at (expr_code i) (load_indirect_word base ∷ size ∷ []) lined in
       let middle : ℕ = at + length (expr_code i) in
-      let behind : end ≡ middle + 2 = omega (arith, length-append (expr_code i) (instruction 5 base ∷ size ∷ [])) in
+      let behind : end ≡ middle + 2 = omega (arith, length-append (expr_code i) (load_indirect_word base ∷ size ∷ [])) in
       let there : line_at code middle ≡ line = line-of code middle _ parts.1.0 in
       expr-run i m stack at middle line n (suc b) refl (omega arith) runs sits.2 parts.0 there room
       (index-run base size (core_value m.cells i) m stack middle end line b behind runs sits.0 sits.1 parts.1 next go)
   expr-run (infix_of op l r) m stack at end line n b ends ticks runs sits lined next room go =
-      let whole = lined-split code line at (expr_code l ++ expr_code r) (instruction 8 (binary_code op) ∷ []) lined in
+      let whole = lined-split code line at (expr_code l ++ expr_code r) (binary_word op ∷ []) lined in
       let parts = lined-split code line at (expr_code l) (expr_code r) whole.0 in
       let right : ℕ = at + length (expr_code l) in
       let last : ℕ = at + length (expr_code l ++ expr_code r) in
       let between : last ≡ right + length (expr_code r) = omega (arith, length-append (expr_code l) (expr_code r)) in
-      let behind : end ≡ last + 1 = omega (arith, length-append (expr_code l ++ expr_code r) (instruction 8 (binary_code op) ∷ [])) in
+      let behind : end ≡ last + 1 = omega (arith, length-append (expr_code l ++ expr_code r) (binary_word op ∷ [])) in
       let there : line_at code last ≡ line = line-of code last _ whole.1.0 in
       let start : line_at code right ≡ line = lined-line code line right last (expr_code r) between parts.1 there in
       expr-run l m stack at right line n (nodes r + suc b) refl (omega arith) runs sits.0 parts.0 start (omega arith)

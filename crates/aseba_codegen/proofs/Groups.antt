@@ -15,6 +15,7 @@ use Rattle.aseba_tree.specs.CoreRun.{call_behind, first_call, work_call}
 use Rattle.aseba_tree.specs.CoreNumbers.{core_form_depth, kept_nodes, own_nodes}
 use Rattle.aseba_tree.specs.CoreShape.{is_readable, is_readable_range, is_indexed, is_good_expr, is_good_target, is_good_form, kept_at, stands_in}
 use Rattle.aseba_tree.specs.Numbers.{nodes, depth}
+use Rattle.aseba_vm.specs.declared.opcode.Opcode.TheVariants as opcode
 use Rattle.aseba_vm.specs.declared.tick.Tick.{Tick}
 use Rattle.aseba_vm.specs.declared.tick.Tick.TheVariants.{Stored, Effect, Sent}
 use Rattle.aseba_vm.specs.declared.tick.Notice.TheVariants.{Emit, Bounds}
@@ -22,9 +23,11 @@ use Rattle.aseba_vm.specs.State.{State, applied, ended}
 use Rattle.aseba_vm.specs.Tick.{ticked}
 use Rattle.aseba_target.specs.MachineRun.{is_effect, is_error, tick_report}
 use Rattle.aseba_codegen.specs.declared.coded.Coded.{Coded}
-use Rattle.aseba_codegen.specs.Words.{instruction, expr_code, store_code}
-use Rattle.aseba_codegen.specs.Agrees.{line_at, truths, is_straight_form}
+use Rattle.aseba_codegen.specs.Words.{expr_code, store_code}
+use Rattle.aseba_codegen.specs.Places.{edge_places, HasBits}
+use Rattle.aseba_codegen.specs.Agrees.{line_at, is_straight_form}
 use Rattle.aseba_tree.specs.CoreCells.{form_has_cells, target_has_cells, has_cells}
+use Rattle.aseba_vm.specs.Words.{end_word, store_word, store_indirect_word, emit_word}
 use Rattle.aseba_codegen.proofs.TickRows.{put, halted, stored, Ready, NoCall, no-call, store-tick, store_indirect-tick, store_outside-tick, emit-tick, end-tick}
 use Rattle.aseba_codegen.proofs.Reach.{Holds, Lined, lined-split, lined-line, line-of, Same, Hidden, Reaches, reached}
 use Rattle.aseba_codegen.proofs.Exprs.{Sits, notice_of, Runs, Goes, expr-run, place-cases}
@@ -76,7 +79,7 @@ core_none-at (x ∷ xs) (suc i) = core_none-at xs i
 -- the words of a statement that stores or sends
 abbrev pub straight_words : CoreForm → List ℕ
 straight_words (store target e) = store_code target e
-straight_words (send event address count) = instruction 11 event ∷ address ∷ count ∷ []
+straight_words (send event address count) = emit_word event ∷ address ∷ count ∷ []
 straight_words _ = []
 
 abbrev pub heavier : Option ℕ → ℕ → ℕ
@@ -93,7 +96,7 @@ module _ (program : CoreProgram) (code : List Coded) (weight : ℕ) where
     pub held_long : length m.held ≡ length m.cells
     pub core_long : length s.cells ≡ program.core.cells + program.core.room
     pub core_held_long : length s.held ≡ length s.cells
-    pub same_bits : truths code m.code ≡ s.bits
+    pub same_bits : HasBits code m.code (edge_places program.project program.core) s.bits
     pub holds : Holds code m.code
     pub same_active : m.active ≡ s.active
     pub same_paused : m.paused ≡ s.paused
@@ -117,17 +120,17 @@ module _ (program : CoreProgram) (code : List Coded) (weight : ℕ) where
       Fits limit line form at kept weighs
       × (kept_at program.core form ≢ None → core_work_line rest ≡ line)
       × Placed limit rest (at + length (straight_words form)) (option_to_list (kept_at program.core form) ++ kept) (heavier (kept_nodes program.core.cells form) weighs)
-  Placed limit (finish_core line ∷ rest) at kept weighs = Lined code line at (instruction 0 0 ∷ []) × (weighs + 3 ≤ weight)
+  Placed limit (finish_core line ∷ rest) at kept weighs = Lined code line at (end_word ∷ []) × (weighs + 3 ≤ weight)
   Placed limit _ at kept weighs = ⊥
 
   -- the line of the place is that of the work
   pub placed-line : (limit : ℕ) (work : List CoreTask) (at : ℕ) (kept : List ℕ) (weighs : ℕ) → Placed limit work at kept weighs → line_at code at ≡ core_work_line work
   placed-line limit [] at kept weighs h = absurd h
   placed-line limit (perform_core before (core_stmt line (store (into a) e)) ∷ rest) at kept weighs h =
-      let parts = lined-split code line at (expr_code e) (instruction 4 a ∷ []) (h.0).stands in
+      let parts = lined-split code line at (expr_code e) (store_word a ∷ []) (h.0).stands in
       lined-line code line at (at + length (expr_code e)) (expr_code e) refl parts.0 (line-of code _ _ parts.1.0)
   placed-line limit (perform_core before (core_stmt line (store (into_index base size i) e)) ∷ rest) at kept weighs h =
-      let parts = lined-split code line at (expr_code e ++ expr_code i) (instruction 6 base ∷ size ∷ []) (h.0).stands in
+      let parts = lined-split code line at (expr_code e ++ expr_code i) (store_indirect_word base ∷ size ∷ []) (h.0).stands in
       lined-line code line at (at + length (expr_code e ++ expr_code i)) (expr_code e ++ expr_code i) refl parts.0 (line-of code _ _ parts.1.0)
   placed-line limit (perform_core before (core_stmt line (send event address count)) ∷ rest) at kept weighs h = line-of code at _ (h.0).stands.0
   placed-line limit (perform_core before (core_stmt line (branch c body other)) ∷ rest) at kept weighs h = absurd (true≢false (sym (h.0).straight))
@@ -340,7 +343,7 @@ module _ (program : CoreProgram) (code : List Coded) (weight : ℕ) where
 
   -- behind the expression of a store into a variable
   variable-after : (el : Element) (rest : List CoreTask) (m : State) (t : CoreState) (at line a b : ℕ) (kept : List ℕ) → a < program.core.cells → Going m t kept
-      → Lined code line at (instruction 4 a ∷ []) → Placed m.shape.stack rest (at + 1) kept 0
+      → Lined code line at (store_word a ∷ []) → Placed m.shape.stack rest (at + 1) kept 0
       → Goes code program.core.cells (Lands (core_storing line (record t { work = rest }) el (Ok a))) b m [] line at el
   variable-after (Err stop) rest m t at line a b kept inside g lined placed = λ top pc on_it tick uncalled. stop-lands stop m (record t { work = rest }) top pc line (put-base m t m.stack m.pc rest g.base) on_it tick uncalled
   variable-after (Ok v) rest m t at line a b kept inside g lined placed =
@@ -354,11 +357,11 @@ module _ (program : CoreProgram) (code : List Coded) (weight : ℕ) where
       } in
       reached code program.core.cells (Lands (core_storing line (record t { work = rest }) (Ok v) (Ok a))) b (put m (v ∷ []) at)
       (lands-by (core_storing line (record t { work = rest }) (Ok v) (Ok a)) (put m (v ∷ []) at) (stored m a v [] (at + 1)) (Stored a) tick (lt-ltb _ _ inside) refl refl
-      (no-call (put m (v ∷ []) at) 4 a low (ready m t kept (v ∷ []) at line _ g lined.0) (λ project id. refl)) next)
+      (no-call (put m (v ∷ []) at) opcode.Store a low (ready m t kept (v ∷ []) at line _ g lined.0) (λ project id. refl)) next)
 
   -- behind the expression of a store into a temporary
   temporary-after : (el : Element) (rest : List CoreTask) → RunsUp rest → (m : State) (t : CoreState) (at line a b weighs : ℕ) (kept : List ℕ) → program.core.cells ≤ a → a < program.core.cells + program.core.room → Going m t kept
-      → Lined code line at (instruction 4 a ∷ []) → Placed m.shape.stack rest (at + 1) (a ∷ kept) weighs → core_work_line rest ≡ line → weighs + b + 1 ≡ weight
+      → Lined code line at (store_word a ∷ []) → Placed m.shape.stack rest (at + 1) (a ∷ kept) weighs → core_work_line rest ≡ line → weighs + b + 1 ≡ weight
       → Goes code program.core.cells (Lands (with_temporary line t a el (λ u. core_first_done program u rest))) (suc b) m [] line at el
   temporary-after (Err stop) rest onward m t at line a b weighs kept above inside g lined placed on_line total = λ top pc on_it tick uncalled. stop-lands stop m t top pc line g.base on_it tick uncalled
   temporary-after (Ok v) rest onward m t at line a b weighs kept above inside g lined placed on_line total =
@@ -401,10 +404,10 @@ module _ (program : CoreProgram) (code : List Coded) (weight : ℕ) where
       let good_e : is_good_expr program.core kept e ≡ true = and-right (is_good_target program.core kept (into a)) (is_good_expr program.core kept e) fits.good in
       let numbers_e : has_cells e ≡ true = and-right (target_has_cells (into a)) (has_cells e) fits.numbers in
       let same : core_value m.cells e ≡ core_value t.cells e = value-alike program.core kept m.cells t.cells e good_e g.reads in
-      let parts = lined-split code line at (expr_code e) (instruction 4 a ∷ []) fits.stands in
+      let parts = lined-split code line at (expr_code e) (store_word a ∷ []) fits.stands in
       let middle : ℕ = at + length (expr_code e) in
       let there : line_at code middle ≡ line = line-of code middle _ parts.1.0 in
-      let behind : at + length (store_code (into a) e) ≡ middle + 1 = omega (arith, length-append (expr_code e) (instruction 4 a ∷ [])) in
+      let behind : at + length (store_code (into a) e) ≡ middle + 1 = omega (arith, length-append (expr_code e) (store_word a ∷ [])) in
       let sat : Sits (length m.cells) e = sits program.core kept (length m.cells) e g.base.long g.base.few good_e numbers_e in
       let b : ℕ = n - nodes e - 1 in
       let light = fits.light in
@@ -419,10 +422,10 @@ module _ (program : CoreProgram) (code : List Coded) (weight : ℕ) where
       let good_e : is_good_expr program.core kept e ≡ true = and-right (is_good_target program.core kept (into a)) (is_good_expr program.core kept e) fits.good in
       let numbers_e : has_cells e ≡ true = and-right (target_has_cells (into a)) (has_cells e) fits.numbers in
       let same : core_value m.cells e ≡ core_value t.cells e = value-alike program.core kept m.cells t.cells e good_e g.reads in
-      let parts = lined-split code line at (expr_code e) (instruction 4 a ∷ []) fits.stands in
+      let parts = lined-split code line at (expr_code e) (store_word a ∷ []) fits.stands in
       let middle : ℕ = at + length (expr_code e) in
       let there : line_at code middle ≡ line = line-of code middle _ parts.1.0 in
-      let behind : at + length (store_code (into a) e) ≡ middle + 1 = omega (arith, length-append (expr_code e) (instruction 4 a ∷ [])) in
+      let behind : at + length (store_code (into a) e) ≡ middle + 1 = omega (arith, length-append (expr_code e) (store_word a ∷ [])) in
       let sat : Sits (length m.cells) e = sits program.core kept (length m.cells) e g.base.long g.base.few good_e numbers_e in
       let b : ℕ = n - nodes e in
       let light = fits.light in
@@ -433,7 +436,7 @@ module _ (program : CoreProgram) (code : List Coded) (weight : ℕ) where
 
   -- behind both expressions of a store at an index
   index-after : (el : Element) (rest : List CoreTask) (m : State) (t : CoreState) (v : ℤ) (at line base size b : ℕ) (kept : List ℕ) → base + size ≤ program.core.cells → base < 4096 → Going m t kept
-      → Lined code line at (instruction 6 base ∷ size ∷ []) → Placed m.shape.stack rest (at + 2) kept 0
+      → Lined code line at (store_indirect_word base ∷ size ∷ []) → Placed m.shape.stack rest (at + 2) kept 0
       → Goes code program.core.cells (Lands (core_storing line (record t { work = rest }) (Ok v) (and_then el (λ i. and_then (place_among size i) (λ place. Ok (base + place)))))) b m (v ∷ []) line at el
   index-after (Err stop) rest m t v at line base size b kept inside low g lined placed = λ top pc on_it tick uncalled. stop-lands stop m (record t { work = rest }) top pc line (put-base m t m.stack m.pc rest g.base) on_it tick uncalled
   index-after (Ok i) rest m t v at line base size b kept inside low g lined placed =
@@ -455,12 +458,12 @@ module _ (program : CoreProgram) (code : List Coded) (weight : ℕ) where
               works = λ active. record { kept = kept; reads = kept-reads m t a v kept within g.base g.reads; placed = placed; empty = refl; unpaused = g.unpaused };
             } in
             let lands : G (Ok c.0) (put m top at) = lands-by (core_storing line r (Ok v) (Ok a)) (put m top at) (stored m a v [] (at + 2)) (Stored a) tick (lt-ltb _ _ within) refl refl
-            (no-call (put m top at) 6 base low (ready m t kept top at line _ g lined.0) (λ project id. refl)) next in
+            (no-call (put m top at) opcode.StoreIndirect base low (ready m t kept top at line _ g lined.0) (λ project id. refl)) next in
             reached code program.core.cells (G (place_among size i)) b (put m top at) (subst (λ p. G p (put m top at)) (sym c.1) lands)
         | inr c ↦
             let tick : ticked (put m top at) ≡ (Sent (Bounds at size i), halted (put m top at)) = store_outside-tick (put m top at) base size v i [] low refl (ready m t kept top at line _ g lined.0) second c.1 in
             let lands : G (Err (outside size i)) (put m top at) = stop-lands (outside size i) m r top at line (put-base m t m.stack m.pc rest g.base) here tick
-            (no-call (put m top at) 6 base low (ready m t kept top at line _ g lined.0) (λ project id. refl)) in
+            (no-call (put m top at) opcode.StoreIndirect base low (ready m t kept top at line _ g lined.0) (λ project id. refl)) in
             reached code program.core.cells (G (place_among size i)) b (put m top at) (subst (λ p. G p (put m top at)) (sym c.0) lands)
       ]
 
@@ -492,12 +495,12 @@ module _ (program : CoreProgram) (code : List Coded) (weight : ℕ) where
       let low : base < 4096 = let l = g.base.few in let k = g.base.long in omega arith in
       let same_e : core_value m.cells e ≡ core_value t.cells e = value-alike program.core kept m.cells t.cells e good_e g.reads in
       let same_i : core_value m.cells i ≡ core_value t.cells i = value-alike program.core kept m.cells t.cells i good_i g.reads in
-      let whole = lined-split code line at (expr_code e ++ expr_code i) (instruction 6 base ∷ size ∷ []) fits.stands in
+      let whole = lined-split code line at (expr_code e ++ expr_code i) (store_indirect_word base ∷ size ∷ []) fits.stands in
       let parts = lined-split code line at (expr_code e) (expr_code i) whole.0 in
       let right : ℕ = at + length (expr_code e) in
       let last : ℕ = at + length (expr_code e ++ expr_code i) in
       let between : last ≡ right + length (expr_code i) = omega (arith, length-append (expr_code e) (expr_code i)) in
-      let behind : at + length (store_code (into_index base size i) e) ≡ last + 2 = omega (arith, length-append (expr_code e ++ expr_code i) (instruction 6 base ∷ size ∷ [])) in
+      let behind : at + length (store_code (into_index base size i) e) ≡ last + 2 = omega (arith, length-append (expr_code e ++ expr_code i) (store_indirect_word base ∷ size ∷ [])) in
       let there : line_at code last ≡ line = line-of code last _ whole.1.0 in
       let start : line_at code right ≡ line = lined-line code line right last (expr_code i) between parts.1 there in
       let sat_e : Sits (length m.cells) e = sits program.core kept (length m.cells) e g.base.long g.base.few good_e numbers_e in
@@ -540,9 +543,9 @@ module _ (program : CoreProgram) (code : List Coded) (weight : ℕ) where
       } in
       reached code program.core.cells (Lands after) n (put m [] at)
       (lands-by after (put m [] at) (put m [] (at + 3)) (Sent (Emit event address count)) tick refl refl (rw cells refl)
-      (no-call (put m [] at) 11 event (omega arith) (ready m t kept [] at line _ g (fits.stands).0) (λ project id. refl)) next)
+      (no-call (put m [] at) opcode.Emit event (omega arith) (ready m t kept [] at line _ g (fits.stands).0) (λ project id. refl)) next)
 
-  finish-run : (line : ℕ) (rest : List CoreTask) (m : State) (t : CoreState) (at : ℕ) (kept : List ℕ) (n : ℕ) → Lined code line at (instruction 0 0 ∷ []) → Going m t kept
+  finish-run : (line : ℕ) (rest : List CoreTask) (m : State) (t : CoreState) (at : ℕ) (kept : List ℕ) (n : ℕ) → Lined code line at (end_word ∷ []) → Going m t kept
       → Reaches code program.core.cells (Lands (record { state = core_ended (record t { work = rest }); report = None })) n (put m [] at)
   finish-run line rest m t at kept n lined g =
       let r : CoreState = record t { work = rest } in
@@ -551,7 +554,7 @@ module _ (program : CoreProgram) (code : List Coded) (weight : ℕ) where
       let after : CoreStepped = record { state = core_ended r; report = None } in
       reached code program.core.cells (Lands after) n (put m [] at)
       (lands-by after (put m [] at) (ended (put m [] at)) Effect tick refl refl refl
-      (no-call (put m [] at) 0 0 (omega arith) (ready m t kept [] at line _ g lined.0) (λ project id. refl)) (idle (ended (put m [] at)) (core_ended r) base refl))
+      (no-call (put m [] at) opcode.End 0 (omega arith) (ready m t kept [] at line _ g lined.0) (λ project id. refl)) (idle (ended (put m [] at)) (core_ended r) base refl))
 
   pub group-run : length program.project.events ≤ 4096 → (work : List CoreTask) → RunsUp work
   group-run events [] m t at kept weighs n placed total g = absurd placed

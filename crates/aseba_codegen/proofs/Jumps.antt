@@ -1,7 +1,8 @@
 -- Displacements back, as words.
 use Rattle.std.proofs.Common.{◌≡◌, ℕ, ◌+◌, ◌-◌, ◌%◌, ◌≤◌, pos, negsuc, neg_ℤ, ◌-ℤ◌, ap, ◌∙◌, arith}
 use Rattle.std.proofs.lemmas.Int.{ints}
-use Rattle.aseba_codegen.specs.Words.{twelve_bits, sixteen_bits}
+use Rattle.aseba_vm.specs.Words.{twelve_bits}
+use Rattle.aseba_codegen.specs.Words.{sixteen_bits}
 
 pub far-ahead : (n : ℕ) → 2 ≤ n → sixteen_bits (pos n -ℤ pos 2) ≡ (n - 2) % 65536
 far-ahead n h = let e : pos n -ℤ pos 2 ≡ pos (n - 2) = omega (arith, ints) in ap sixteen_bits e

@@ -2,7 +2,6 @@
 use Rattle.std.proofs.Common.{◌≡◌, ℕ, suc, ◌+◌, ◌*◌, ◌≤◌, ◌||◌, not, Bool, true, false, if◌then◌else◌, ℤ, pos, negsuc, ◌-ℤ◌, neg_ℤ, List, [], ◌∷◌, ◌++◌, length, take, drop, Option, Some, None, is_some, refl, ap, ◌∙◌, arith, length-append}
 use Rattle.std.proofs.lemmas.List.Sums.{sum_by-cons}
 use Rattle.std.specs.Prelude.{int_lt, sum_by, filter, flat_map, slice_index}
-use Rattle.aseba_words.specs.Codes.{unary_code, binary_code}
 use Rattle.aseba_tree.specs.Code.{Project}
 use Rattle.aseba_tree.specs.CoreExpr.{CoreExpr, fixed, cell, indirect, prefix, infix_of, CoreTarget, into, into_index}
 use Rattle.aseba_tree.specs.Core.{CoreStmt, core_stmt, CoreForm, store, branch, on_edge, loop, send, enter, use_native, go_back, CoreStmts, no_core, core_stmts, CorePart, Core}
@@ -10,8 +9,9 @@ use Rattle.aseba_tree.specs.CoreShape.{is_last}
 use Rattle.aseba_tree.specs.Sizes.{is_of_one_cell}
 use Rattle.aseba_tree.specs.Numbers.{is_large, jump_words, number_words, words, condition_words}
 use Rattle.aseba_tree.specs.CoreNumbers.{param_count, is_handler, store_words, native_words, core_else_words, core_stmt_words, core_form_words, core_list_words, core_part_words, core_table_words, core_words, core_starts_from}
+use Rattle.aseba_vm.specs.Words.{small_number_word, load_indirect_word, store_word, store_indirect_word, unary_word, binary_word, jump_word, native_word}
 use Rattle.aseba_codegen.specs.declared.coded.Coded.{Coded}
-use Rattle.aseba_codegen.specs.Words.{Condition, Site, instruction, twelve_bits, sixteen_bits, far_jump, large_number_code, number_code, expr_code, differs_from_zero, condition_code, store_code, jump_code, test_code, if_code, native_code, on_line, stmt_code, form_code, list_code, is_sub, part_code, init_code, init_start, starts_apart, part_starts, handler_entry, handler_entries, table_of, table_code, parts_code, core_code}
+use Rattle.aseba_codegen.specs.Words.{Condition, Site, sixteen_bits, far_jump, large_number_code, number_code, expr_code, differs_from_zero, condition_code, store_code, jump_code, test_code, if_code, native_code, on_line, stmt_code, form_code, list_code, is_sub, part_code, init_code, init_start, starts_apart, part_starts, handler_entry, handler_entries, table_of, table_code, parts_code, core_code}
 
 pub on_line-long : (line : ℕ) (ws : List ℕ) → length (on_line line ws) ≡ length ws
 on_line-long line [] = refl
@@ -20,17 +20,17 @@ on_line-long line (w ∷ ws) = ap suc (on_line-long line ws)
 number-long : (v : ℤ) → length (number_code v) ≡ number_words v
 number-long v = by_test (int_lt v (negsuc 2047) || int_lt (pos 2047) v)
   where
-    by_test : (b : Bool) → length (if b then large_number_code v else instruction 1 (twelve_bits v) ∷ []) ≡ (if b then 2 else 1)
+    by_test : (b : Bool) → length (if b then large_number_code v else small_number_word v ∷ []) ≡ (if b then 2 else 1)
     by_test true = refl
     by_test false = refl
 
 pub expr-long : (e : CoreExpr) → length (expr_code e) ≡ words e
 expr-long (fixed v) = number-long v
 expr-long (cell a) = refl
-expr-long (indirect base size i) = omega (arith, length-append (expr_code i) (instruction 5 base ∷ size ∷ []), expr-long i)
-expr-long (prefix op e) = omega (arith, length-append (expr_code e) (instruction 7 (unary_code op) ∷ []), expr-long e)
+expr-long (indirect base size i) = omega (arith, length-append (expr_code i) (load_indirect_word base ∷ size ∷ []), expr-long i)
+expr-long (prefix op e) = omega (arith, length-append (expr_code e) (unary_word op ∷ []), expr-long e)
 expr-long (infix_of op l r) =
-    omega (arith, length-append (expr_code l ++ expr_code r) (instruction 8 (binary_code op) ∷ []), length-append (expr_code l) (expr_code r), expr-long l, expr-long r)
+    omega (arith, length-append (expr_code l ++ expr_code r) (binary_word op ∷ []), length-append (expr_code l) (expr_code r), expr-long l, expr-long r)
 
 differs-long : (e : CoreExpr) → length (differs_from_zero e).words ≡ words e + 1
 differs-long e = omega (arith, length-append (expr_code e) (number_code (pos 0)), expr-long e)
@@ -43,19 +43,19 @@ condition-long (prefix op e) = differs-long (prefix op e)
 condition-long (infix_of op l r) = by_test (is_of_one_cell op)
   where
     by_test : (b : Bool)
-        → length (if b then record { words = expr_code l ++ expr_code r; operator = binary_code op } else differs_from_zero (infix_of op l r)).words ≡ (if b then words l + words r else words (infix_of op l r) + 1)
+        → length (if b then record { words = expr_code l ++ expr_code r; operator = op } else differs_from_zero (infix_of op l r)).words ≡ (if b then words l + words r else words (infix_of op l r) + 1)
     by_test true = omega (arith, length-append (expr_code l) (expr_code r), expr-long l, expr-long r)
     by_test false = differs-long (infix_of op l r)
 
 pub store-long : (t : CoreTarget) (e : CoreExpr) → length (store_code t e) ≡ store_words t e
-store-long (into a) e = omega (arith, length-append (expr_code e) (instruction 4 a ∷ []), expr-long e)
+store-long (into a) e = omega (arith, length-append (expr_code e) (store_word a ∷ []), expr-long e)
 store-long (into_index base size i) e =
-    omega (arith, length-append (expr_code e ++ expr_code i) (instruction 6 base ∷ size ∷ []), length-append (expr_code e) (expr_code i), expr-long e, expr-long i)
+    omega (arith, length-append (expr_code e ++ expr_code i) (store_indirect_word base ∷ size ∷ []), length-append (expr_code e) (expr_code i), expr-long e, expr-long i)
 
 jump-long : (project : Project) (by : ℤ) → length (jump_code project by) ≡ jump_words project
 jump-long project by = by_test (is_large project)
   where
-    by_test : (b : Bool) → length (if b then far_jump (sixteen_bits (by -ℤ pos 2)) else instruction 9 (twelve_bits by) ∷ []) ≡ (if b then 4 else 1)
+    by_test : (b : Bool) → length (if b then far_jump (sixteen_bits (by -ℤ pos 2)) else jump_word by ∷ []) ≡ (if b then 4 else 1)
     by_test true = refl
     by_test false = refl
 
@@ -72,7 +72,7 @@ native-long : (project : Project) (id : ℕ) (values : List ℕ) → length (nat
 native-long project id values =
     let front : List ℕ = flat_map (λ address. large_number_code (pos address)) (take (param_count project id) values) in
     let back : List ℕ = flat_map (λ n. number_code (pos n)) (drop (param_count project id) values) in
-    omega (arith, arguments-long (take (param_count project id) values), lengths-long (drop (param_count project id) values), length-append (front ++ back) (instruction 12 id ∷ []), length-append front back)
+    omega (arith, arguments-long (take (param_count project id) values), lengths-long (drop (param_count project id) values), length-append (front ++ back) (native_word id ∷ []), length-append front back)
 
 test-long : (line : ℕ) (is_edge : Bool) (c : Condition) (otherwise : ℕ) → length (test_code line is_edge c otherwise) ≡ length c.words + 2
 test-long line is_edge c otherwise = length-append (on_line line c.words) _ ∙ ap (λ n. n + 2) (on_line-long line c.words)

@@ -1,4 +1,5 @@
 mod Begin
+pub mod BitLaws
 mod Exprs
 pub mod FormAnswers
 mod Groups
@@ -7,6 +8,7 @@ pub mod Lengths
 mod Placing
 mod Reach
 pub mod Runs
+pub mod TextPlaces
 mod TickRows
 mod Values
 mod WordRows

@@ -26,6 +26,7 @@ use Rattle.aseba_vm.proofs.Ticks.{ticked-idle}
 use Rattle.aseba_target.specs.Node.{Layout, IsStarted}
 use Rattle.aseba_target.specs.MachineRun.{is_effect, is_error, tick_report, is_running, next_call, machine_system, machine_run, machine_moments, machine_beats}
 use Rattle.aseba_codegen.specs.declared.coded.Coded.{Coded}
+use Rattle.aseba_codegen.specs.Places.{edge_places, HasBits}
 use Rattle.aseba_codegen.specs.Words.{core_code, code_words}
 use Rattle.aseba_codegen.specs.Agrees.{IsStraightCore, IsNode, IsLaidOut, line_at, words_of, Seen, RunsAlike, StraightCodeRuns}
 use Rattle.aseba_codegen.proofs.TickRows.{put}
@@ -121,7 +122,7 @@ module _ (program : CoreProgram) (code : List Coded) (weight : ℕ) (layout : La
     held_long = ap length k.held ∙ h.held_long ∙ sym k.many;
     core_long = h.core_long;
     core_held_long = h.core_held_long;
-    same_bits = ap (λ memory. Rattle.aseba_codegen.specs.Agrees.truths code memory) k.memory ∙ h.same_bits;
+    same_bits = subst (λ memory. HasBits code memory (edge_places program.project program.core) s.bits) (sym k.memory) h.same_bits;
     holds = subst (λ memory. Rattle.aseba_codegen.proofs.Reach.Holds code memory) (sym k.memory) h.holds;
     same_active = k.active ∙ h.same_active;
     same_paused = k.paused ∙ h.same_paused;
@@ -280,7 +281,7 @@ module _ (program : CoreProgram) (code : List Coded) (weight : ℕ) (layout : La
   }
 
   -- what is seen of both
-  pub seen : (b : ℕ) (m : State) (s : CoreState) → Near b m s → Seen code cells m s
+  pub seen : (b : ℕ) (m : State) (s : CoreState) → Near b m s → Seen code (edge_places program.project program.core) cells m s
   seen b m s r =
       let base : Base program code weight m s = r.base in
       let held_long : cells ≤ length m.held = let l = base.held_long in let k = base.long in omega arith in

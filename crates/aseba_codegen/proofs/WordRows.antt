@@ -4,7 +4,7 @@ use Rattle.aseba_words.specs.declared.operators.Binary.TheVariants.{Add, AtMost,
 use Rattle.aseba_tree.specs.Code.{Project}
 use Rattle.aseba_tree.specs.CoreExpr.{CoreExpr, fixed, cell, indirect, infix_of, into}
 use Rattle.aseba_tree.specs.Core.{CoreStmt, core_stmt, store, branch, on_edge, loop, send, enter, CoreStmts, no_core, core_stmts, CorePart, Core}
-use Rattle.aseba_codegen.specs.Worked.{small_project}
+use Rattle.aseba_target.specs.Worked.{small_project}
 use Rattle.aseba_codegen.specs.Words.{code_words, code_lines}
 
 abbrev block : List CoreStmt → CoreStmts

@@ -10,10 +10,10 @@ use Rattle.aseba_tree.specs.CoreStep.{CoreProgram, CoreState, core_next_line}
 use Rattle.aseba_tree.specs.CoreRun.{own_places, core_run, core_lines, core_moments}
 use Rattle.aseba_tree.specs.Run.{Paced, HasNoError}
 use Rattle.aseba_vm.specs.State.{State}
-use Rattle.aseba_vm.specs.Instructions.{was_true}
 use Rattle.aseba_target.specs.Node.{Layout, IsStarted}
 use Rattle.aseba_target.specs.MachineRun.{machine_run, machine_lines, machine_moments, machine_beats}
 use Rattle.aseba_codegen.specs.declared.coded.Coded.{Coded}
+use Rattle.aseba_codegen.specs.Places.{edge_places, HasBits}
 use Rattle.aseba_codegen.specs.Words.{core_code, code_words}
 
 -- What is asked of projects and cores
@@ -51,15 +51,10 @@ pub record IsStraightCore (project : Project) (core : Core) : Type 0 where
 abbrev pub line_at : List Coded → ℕ → ℕ
 line_at code at = slice_index (map (λ c. c.line) code) at
 
--- the truths that the `when`s of a code remember, in their order
-abbrev pub truths : List Coded → List ℕ → List Bool
-truths (c ∷ code) (word ∷ memory) = if c.is_edge then was_true word ∷ truths code memory else truths code memory
-truths _ _ = []
-
--- The cells of variables, the `when` bits, what is held for variables and the flags are the same, and the counter stands on the line of the effect that is next.
-pub record Seen (code : List Coded) (cells : ℕ) (m : State) (s : CoreState) : Type 0 where
+-- The cells of variables, what is held for them and the flags are the same; each `when` bit stands at its place; and the counter stands on the line of the effect that is next.
+pub record Seen (code : List Coded) (places : List ℕ) (cells : ℕ) (m : State) (s : CoreState) : Type 0 where
   pub cells_alike : take cells m.cells ≡ take cells s.cells
-  pub bits_alike : truths code m.code ≡ s.bits
+  pub bits_alike : HasBits code m.code places s.bits
   pub held_alike : take cells m.held ≡ take cells s.held
   pub active_alike : m.active ≡ s.active
   pub paused_alike : m.paused ≡ s.paused
@@ -83,7 +78,7 @@ pub record RunsAlike (program : CoreProgram) (layout : Layout) (m : State) (scri
   pub lines : map (line_by (line_at (core_code program.project program.core))) (machine_lines program.project layout m script n)
       ≡ core_lines program script (machine_beats program.project layout m script n)
   pub same_moments : machine_moments program.project layout m script n ≡ core_moments program script (machine_beats program.project layout m script n)
-  pub seen : Seen (core_code program.project program.core) program.core.cells (machine_run program.project layout m script n).state
+  pub seen : Seen (core_code program.project program.core) (edge_places program.project program.core) program.core.cells (machine_run program.project layout m script n).state
       (core_run program script (machine_beats program.project layout m script n)).state
   pub paced : Paced (core_weight program.core) (core_moments program script (machine_beats program.project layout m script n))
   pub no_error : HasNoError (machine_moments program.project layout m script n)

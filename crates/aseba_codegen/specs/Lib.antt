@@ -1,3 +1,5 @@
 pub mod Agrees
 pub mod Generated
+pub mod Places
+pub mod PlacesByText
 pub mod Words

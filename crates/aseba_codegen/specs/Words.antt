@@ -1,6 +1,6 @@
 -- The plain code of a core: its words, each with the line of the effect that is next from there.
 use Rattle.std.specs.Prelude.{ℕ, ◌+◌, ◌-◌, ◌*◌, ◌%◌, Bool, true, false, not, ◌||◌, if◌then◌else◌, ℤ, pos, negsuc, neg_ℤ, ◌-ℤ◌, int_lt, List, [], ◌∷◌, ◌++◌, length, map, take, drop, sum_by, filter, flat_map, Option, Some, None, slice_index}
-use Rattle.aseba_words.specs.Codes.{unary_code, binary_code}
+use Rattle.aseba_words.specs.declared.operators.Binary.{Binary}
 use Rattle.aseba_words.specs.declared.operators.Binary.TheVariants.{Differ}
 use Rattle.aseba_tree.specs.Code.{Project}
 use Rattle.aseba_codegen.specs.declared.coded.Coded.{Coded}
@@ -10,19 +10,11 @@ use Rattle.aseba_tree.specs.CoreShape.{is_last}
 use Rattle.aseba_tree.specs.Sizes.{is_of_one_cell}
 use Rattle.aseba_tree.specs.Numbers.{is_large, jump_words}
 use Rattle.aseba_tree.specs.CoreNumbers.{param_count, is_handler, core_list_words, core_part_words, core_table_words, core_starts_from}
+use Rattle.aseba_vm.specs.Words.{end_word, sub_return_word, large_number_word, small_number_word, load_word, load_indirect_word, store_word, store_indirect_word, unary_word, binary_word, jump_word, branch_word, emit_word, native_word, sub_call_word}
 
 -- words of one line that stay as they are
 abbrev pub on_line : ℕ → List ℕ → List Coded
 on_line line words = map (λ word. record { word = word; line = line; is_edge = false }) words
-
--- the instruction of a number, which are its high four bits, with these low twelve bits
-abbrev pub instruction : ℕ → ℕ → ℕ
-instruction number low = number * 4096 + low % 4096
-
--- a number from -2048 to 2047 in twelve bits
-abbrev pub twelve_bits : ℤ → ℕ
-twelve_bits (pos n) = n
-twelve_bits (negsuc n) = 4095 - n
 
 -- a number in sixteen bits
 abbrev pub sixteen_bits : ℤ → ℕ
@@ -33,50 +25,46 @@ sixteen_bits (negsuc n) = 65535 - n
 
 -- a number is pushed: from the word's own low bits where it is from -2048 to 2047, else from a further word
 abbrev pub large_number_code : ℤ → List ℕ
-large_number_code v = instruction 2 0 ∷ sixteen_bits v ∷ []
+large_number_code v = large_number_word ∷ sixteen_bits v ∷ []
 
 abbrev pub number_code : ℤ → List ℕ
-number_code v = if int_lt v (negsuc 2047) || int_lt (pos 2047) v then large_number_code v else instruction 1 (twelve_bits v) ∷ []
+number_code v = if int_lt v (negsuc 2047) || int_lt (pos 2047) v then large_number_code v else small_number_word v ∷ []
 
 -- the code that pushes an expression's value
 abbrev pub expr_code : CoreExpr → List ℕ
 expr_code (fixed v) = number_code v
-expr_code (cell address) = instruction 3 address ∷ []
-expr_code (indirect base size i) = expr_code i ++ instruction 5 base ∷ size ∷ []
-expr_code (prefix op e) = expr_code e ++ instruction 7 (unary_code op) ∷ []
-expr_code (infix_of op l r) = expr_code l ++ expr_code r ++ instruction 8 (binary_code op) ∷ []
+expr_code (cell address) = load_word address ∷ []
+expr_code (indirect base size i) = expr_code i ++ load_indirect_word base ∷ size ∷ []
+expr_code (prefix op e) = expr_code e ++ unary_word op ∷ []
+expr_code (infix_of op l r) = expr_code l ++ expr_code r ++ binary_word op ∷ []
 
 -- The two values that a branch compares, and its operator. A comparison, an `and` and an `or` are the branch's own; any other value is
 -- compared with 0.
 pub record Condition : Type 0 where
   pub words : List ℕ
-  pub operator : ℕ
+  pub operator : Binary
 
 abbrev pub differs_from_zero : CoreExpr → Condition
-differs_from_zero e = record { words = expr_code e ++ number_code (pos 0); operator = binary_code Differ }
+differs_from_zero e = record { words = expr_code e ++ number_code (pos 0); operator = Differ }
 
 abbrev pub condition_code : CoreExpr → Condition
 condition_code (infix_of op l r) =
-    if is_of_one_cell op then record { words = expr_code l ++ expr_code r; operator = binary_code op } else differs_from_zero (infix_of op l r)
+    if is_of_one_cell op then record { words = expr_code l ++ expr_code r; operator = op } else differs_from_zero (infix_of op l r)
 condition_code e = differs_from_zero e
 
 -- Statements
 
 abbrev pub store_code : CoreTarget → CoreExpr → List ℕ
-store_code (into address) e = expr_code e ++ instruction 4 address ∷ []
-store_code (into_index base size i) e = expr_code e ++ expr_code i ++ instruction 6 base ∷ size ∷ []
+store_code (into address) e = expr_code e ++ store_word address ∷ []
+store_code (into_index base size i) e = expr_code e ++ expr_code i ++ store_indirect_word base ∷ size ∷ []
 
 -- a branch on 0 != 0, which always goes by its displacement
 abbrev pub far_jump : ℕ → List ℕ
-far_jump displacement = instruction 1 0 ∷ instruction 1 0 ∷ instruction 10 (binary_code Differ) ∷ displacement ∷ []
+far_jump displacement = small_number_word (pos 0) ∷ small_number_word (pos 0) ∷ branch_word Differ false ∷ displacement ∷ []
 
 -- A jump by a displacement from its first word. In a large project it is a branch that always goes by its displacement, two words behind the first.
 abbrev pub jump_code : Project → ℤ → List ℕ
-jump_code project by = if is_large project then far_jump (sixteen_bits (by -ℤ pos 2)) else instruction 9 (twelve_bits by) ∷ []
-
--- the branch word, which in a `when` has bit 8
-abbrev pub branch_word : ℕ → Bool → ℕ
-branch_word operator is_edge = instruction 10 (operator + (if is_edge then 256 else 0))
+jump_code project by = if is_large project then far_jump (sixteen_bits (by -ℤ pos 2)) else jump_word by ∷ []
 
 -- A condition and its branch, which goes on behind itself where it is true, and else so many words from the branch on.
 abbrev pub test_code : ℕ → Bool → Condition → ℕ → List Coded
@@ -103,7 +91,7 @@ loop_code project line c body =
 abbrev pub native_code : Project → ℕ → List ℕ → List ℕ
 native_code project id values =
     flat_map (λ address. large_number_code (pos address)) (take (param_count project id) values)
-    ++ flat_map (λ n. number_code (pos n)) (drop (param_count project id) values) ++ instruction 12 id ∷ []
+    ++ flat_map (λ n. number_code (pos n)) (drop (param_count project id) values) ++ native_word id ∷ []
 
 -- what code is made for: the project, the address of each part, and whether the code is a subroutine's
 pub record Site : Type 0 where
@@ -113,7 +101,7 @@ pub record Site : Type 0 where
 
 -- the word that ends a subroutine, or the init code or a handler
 abbrev pub last_word : Bool → ℕ
-last_word in_sub = if in_sub then instruction 14 0 else instruction 0 0
+last_word in_sub = if in_sub then sub_return_word else end_word
 
 abbrev mutual
   pub stmt_code : Site → CoreStmt → List Coded
@@ -124,8 +112,8 @@ abbrev mutual
   form_code site line (branch c body other) = if_code site.project line (condition_code c) (list_code site body) (not (is_last other)) (list_code site other)
   form_code site line (on_edge c body) = when_code line (condition_code c) (list_code site body)
   form_code site line (loop c body) = loop_code site.project line (condition_code c) (list_code site body)
-  form_code site line (send event address count) = on_line line (instruction 11 event ∷ address ∷ count ∷ [])
-  form_code site line (enter which) = on_line line (instruction 13 (slice_index site.starts which) ∷ [])
+  form_code site line (send event address count) = on_line line (emit_word event ∷ address ∷ count ∷ [])
+  form_code site line (enter which) = on_line line (sub_call_word (slice_index site.starts which) ∷ [])
   form_code site line (use_native id values) = on_line line (native_code site.project id values)
   form_code site line go_back = on_line line (last_word site.in_sub ∷ [])
 

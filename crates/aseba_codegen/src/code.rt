@@ -4,8 +4,9 @@ ghost use Rattle.aseba_tree.specs.Numbers.{is_large, jump_words};
 ghost use Rattle.aseba_tree.specs.View.{core_expr_view, core_target_view, project_view};
 
 use crate::coded::Coded;
-use crate::words::{add_condition, add_store, word_of};
+use crate::words::{add_condition, add_store};
 use aseba_tree::{CoreExpr, CoreTarget, Project};
+use aseba_vm::instruction;
 use aseba_words::{Binary, List, Mem};
 use std::alloc::Global;
 
@@ -57,7 +58,7 @@ fn add_jump(code: &mut List<Coded>, project: &Project, line: u32, by: usize) -> 
     if is_large_project(project) {
         add_far(code, line, ((by - 2) % 65536) as u16)
     } else {
-        add_words(code, line, &[word_of(9, (by % 4096) as u16)])
+        add_words(code, line, &[instruction::jump((by % 4096) as u16)])
     }
 }
 
@@ -73,7 +74,7 @@ fn add_jump_back(code: &mut List<Coded>, project: &Project, line: u32, by: usize
         add_words(
             code,
             line,
-            &[word_of(9, 4096_usize.saturating_sub(by) as u16)],
+            &[instruction::jump(4096_usize.saturating_sub(by) as u16)],
         )
     }
 }
@@ -83,9 +84,9 @@ fn add_far(code: &mut List<Coded>, line: u32, displacement: u16) -> Result<(), M
     ensures { OnOk result (code.new ≡ code.old ++ on_line line (far_jump displacement)) }
 {
     let words = [
-        word_of(1, 0),
-        word_of(1, 0),
-        word_of(10, Binary::Differ.code()),
+        instruction::small_number(0),
+        instruction::small_number(0),
+        instruction::branch(Binary::Differ, false),
         displacement,
     ];
     add_words(code, line, &words)
@@ -97,16 +98,14 @@ fn add_test(
     line: u32,
     is_edge: bool,
     words: &[u16],
-    operator: u16,
+    operator: Binary,
     otherwise: usize,
 ) -> Result<(), Mem>
-    requires operator { operator < 256 }
     ensures { OnOk result (code.new ≡ code.old ++ test_code line is_edge (record { words = words.now; operator = operator }) otherwise) }
 {
     add_words(code, line, words)?;
-    let bit: u16 = if is_edge { 256 } else { 0 };
     let branch = Coded {
-        word: word_of(10, operator + bit),
+        word: instruction::branch(operator, is_edge),
         line,
         is_edge,
     };

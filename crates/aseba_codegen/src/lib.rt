@@ -4,6 +4,8 @@
 #![tactic(auto)]
 
 ghost use Rattle.aseba_codegen.specs.Agrees.{StraightCodeRuns};
+ghost use Rattle.aseba_codegen.specs.Places.{BitsStandAtPlaces};
+ghost use Rattle.aseba_codegen.specs.PlacesByText.{BitsByText, HasBitsByText, PlacesByText};
 
 mod code;
 mod coded;
@@ -22,4 +24,16 @@ pub use image::{Image, generate};
 /// steps, at its pace, and without a node error.
 pub fn straight_code_runs()
     ensures { StraightCodeRuns }
+{}
+
+/// Where the branch words of `when`s have their bits, the bits by places are these.
+pub fn bits_stand_at_places()
+    ensures { BitsStandAtPlaces }
+{}
+
+/// The bits of `when`s go by the text, also where the code has its parts in another order.
+pub fn whens_by_text()
+    ensures places { PlacesByText }
+    ensures bits { BitsByText }
+    ensures has_bits { HasBitsByText }
 {}

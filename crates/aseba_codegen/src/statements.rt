@@ -5,8 +5,9 @@ ghost use Rattle.aseba_tree.specs.View.{core_form_view, core_stmt_view, core_stm
 
 use crate::code::{add_if, add_loop, add_stored, add_when, add_words};
 use crate::coded::Coded;
-use crate::words::{add_call, word_of};
+use crate::words::add_call;
 use aseba_tree::{CoreForm, CoreStmt, Project};
+use aseba_vm::instruction;
 use aseba_words::{List, Mem};
 use std::alloc::Global;
 
@@ -15,9 +16,9 @@ pub fn end_word(in_sub: bool) -> u16
     ensures { result ≡ last_word in_sub }
 {
     if in_sub {
-        word_of(14, 0)
+        instruction::sub_return()
     } else {
-        word_of(0, 0)
+        instruction::end()
     }
 }
 
@@ -94,13 +95,13 @@ fn add_form(
             add_loop(alloc, code, project, line, test.get(), then.as_slice())
         }
         CoreForm::Emit(event, start, length) => {
-            add_words(code, line, &[word_of(11, *event), *start, *length])
+            add_words(code, line, &[instruction::emit(*event), *start, *length])
         }
         CoreForm::CallSub(which) => {
             add_words(
                 code,
                 line,
-                &[word_of(13, (start_of(starts, *which) % 4096) as u16)],
+                &[instruction::sub_call((start_of(starts, *which) % 4096) as u16)],
             )
         }
         CoreForm::Call(native, values) => {

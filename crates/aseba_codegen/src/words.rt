@@ -1,24 +1,18 @@
-ghost use Rattle.std.specs.Prelude.{◌≡◌, ◌<◌, ◌||◌, not, false, int_lt, negsuc, pos, flat_map, [], ◌∷◌, ◌++◌, IfOk, OnOk};
-ghost use Rattle.aseba_codegen.specs.Words.{instruction, twelve_bits, sixteen_bits, number_code, large_number_code, expr_code, condition_code, store_code, differs_from_zero, native_code};
+ghost use Rattle.std.specs.Prelude.{◌≡◌, ◌||◌, not, false, int_lt, negsuc, pos, flat_map, [], ◌∷◌, ◌++◌, IfOk, OnOk};
+ghost use Rattle.aseba_codegen.specs.Words.{sixteen_bits, number_code, large_number_code, expr_code, condition_code, store_code, differs_from_zero, native_code};
 ghost use Rattle.aseba_tree.specs.View.{core_expr_view, core_target_view, project_view};
 ghost use Rattle.aseba_tree.specs.CoreNumbers.{param_count};
+ghost use Rattle.aseba_vm.specs.Words.{large_number_word};
 
 use aseba_tree::{CoreExpr, CoreTarget, Project};
+use aseba_vm::instruction;
 use aseba_words::{Binary, List, Mem};
-
-/// The word of an instruction, whose high four bits are its number.
-pub fn word_of(number: u16, low: u16) -> u16
-    requires { number < 16 }
-    ensures { result ≡ instruction number low }
-{
-    number * 4096 + low % 4096
-}
 
 /// Adds the code that pushes a number from a word of its own.
 pub fn add_large(words: &mut List<u16>, bits: u16) -> Result<(), Mem>
-    ensures { OnOk result (words.new ≡ words.old ++ instruction 2 0 ∷ bits ∷ []) }
+    ensures { OnOk result (words.new ≡ words.old ++ large_number_word ∷ bits ∷ []) }
 {
-    words.add(word_of(2, 0))?;
+    words.add(instruction::large_number())?;
     words.add(bits)
 }
 
@@ -27,18 +21,6 @@ fn is_small(value: i16) -> bool
     ensures { result ≡ not (int_lt value (negsuc 2047) || int_lt (pos 2047) value) }
 {
     value >= -2048 && value <= 2047
-}
-
-/// A number from -2048 to 2047 in twelve bits.
-fn in_twelve_bits(value: i16) -> u16
-    requires { (int_lt value (negsuc 2047) || int_lt (pos 2047) value) ≡ false }
-    ensures { result ≡ twelve_bits value }
-{
-    if value < 0 {
-        (4096 + value) as u16
-    } else {
-        value as u16
-    }
 }
 
 /// A number in sixteen bits.
@@ -57,7 +39,7 @@ pub fn add_number(words: &mut List<u16>, value: i16) -> Result<(), Mem>
     ensures { OnOk result (words.new ≡ words.old ++ number_code value) }
 {
     if is_small(value) {
-        words.add(word_of(1, in_twelve_bits(value)))
+        words.add(instruction::small_number(value))
     } else {
         add_large(words, in_sixteen_bits(value))
     }
@@ -69,46 +51,44 @@ pub fn add_expr(words: &mut List<u16>, expr: &CoreExpr) -> Result<(), Mem>
 {
     match expr {
         CoreExpr::Number(value) => add_number(words, *value),
-        CoreExpr::Cell(address) => words.add(word_of(3, *address)),
+        CoreExpr::Cell(address) => words.add(instruction::load(*address)),
         CoreExpr::Indirect(base, size, index) => {
             add_expr(words, index.get())?;
-            words.add(word_of(5, *base))?;
+            words.add(instruction::load_indirect(*base))?;
             words.add(*size)
         }
         CoreExpr::One(op, operand) => {
             add_expr(words, operand.get())?;
-            words.add(word_of(7, op.code()))
+            words.add(instruction::unary(*op))
         }
         CoreExpr::Two(op, left, right) => {
             add_expr(words, left.get())?;
             add_expr(words, right.get())?;
-            words.add(word_of(8, op.code()))
+            words.add(instruction::binary(*op))
         }
     }
 }
 
 /// Adds a value and 0, which a branch compares. Answers the branch's operator.
-fn add_value(words: &mut List<u16>, value: &CoreExpr) -> Result<u16, Mem>
+fn add_value(words: &mut List<u16>, value: &CoreExpr) -> Result<Binary, Mem>
     ensures operator { IfOk result (λ op. op ≡ (differs_from_zero (core_expr_view value.now)).operator) }
     ensures words { OnOk result (words.new ≡ words.old ++ (differs_from_zero (core_expr_view value.now)).words) }
-    ensures low { IfOk result (λ op. op < 256) }
 {
     add_expr(words, value)?;
     add_number(words, 0)?;
-    Ok(Binary::Differ.code())
+    Ok(Binary::Differ)
 }
 
 /// Adds the two values that a branch compares. Answers the branch's operator.
-pub fn add_condition(words: &mut List<u16>, test: &CoreExpr) -> Result<u16, Mem>
+pub fn add_condition(words: &mut List<u16>, test: &CoreExpr) -> Result<Binary, Mem>
     ensures operator { IfOk result (λ op. op ≡ (condition_code (core_expr_view test.now)).operator) }
     ensures words { OnOk result (words.new ≡ words.old ++ (condition_code (core_expr_view test.now)).words) }
-    ensures low { IfOk result (λ op. op < 256) }
 {
     match test {
         CoreExpr::Two(op, left, right) if op.is_of_one_cell() => {
             add_expr(words, left.get())?;
             add_expr(words, right.get())?;
-            Ok(op.code())
+            Ok(*op)
         }
         _ => add_value(words, test),
     }
@@ -120,10 +100,10 @@ pub fn add_store(words: &mut List<u16>, target: &CoreTarget, value: &CoreExpr) -
 {
     add_expr(words, value)?;
     match target {
-        CoreTarget::Cell(address) => words.add(word_of(4, *address)),
+        CoreTarget::Cell(address) => words.add(instruction::store(*address)),
         CoreTarget::Indirect(base, size, index) => {
             add_expr(words, index)?;
-            words.add(word_of(6, *base))?;
+            words.add(instruction::store_indirect(*base))?;
             words.add(*size)
         }
     }
@@ -146,7 +126,7 @@ fn add_length(words: &mut List<u16>, length: u16) -> Result<(), Mem>
     if length > 2047 {
         add_large(words, length)
     } else {
-        words.add(word_of(1, length))
+        words.add(instruction::small_number(length as i16))
     }
 }
 
@@ -183,5 +163,5 @@ pub fn add_call(
     let (addresses, lengths) = values.split_at(count);
     add_addresses(words, addresses)?;
     add_lengths(words, lengths)?;
-    words.add(word_of(12, native))
+    words.add(instruction::native(native))
 }
