@@ -1,5 +1,6 @@
 -- The project that stands where none is named.
-use Rattle.std.specs.Prelude.{ℕ, ℤ, pos, negsuc, List, [], ◌∷◌, ◌++◌, codes}
+use Rattle.std.specs.Prelude.{◌≡◌, ℕ, ℤ, pos, negsuc, List, [], ◌∷◌, ◌++◌, map, codes}
+use Rattle.aseba_words.specs.Natives.{natives, sizes}
 use Rattle.aseba_tree.specs.declared.description.Sized.{Sized}
 use Rattle.aseba_tree.specs.declared.description.Param.{Param}
 use Rattle.aseba_tree.specs.declared.description.Native.{Native}
@@ -58,6 +59,10 @@ scan_natives =
 
 abbrev pub default_natives : List Native
 default_natives = cell_natives ++ sum_natives ++ choice_natives ++ range_natives ++ scan_natives
+
+-- in their order they take what the natives of every node take
+abbrev pub HasKnownNatives : Type 0
+HasKnownNatives = map (λ native. map (λ p. p.size) native.params) default_natives ≡ map sizes natives
 
 abbrev pub default_variables : List Sized
 default_variables = sized (codes "_id") 1 ∷ sized (codes "event.source") 1 ∷ sized (codes "event.args") 32 ∷ []

@@ -26,6 +26,12 @@ pub fn default_project(alloc: Global) -> Result<Project, Mem>
     })
 }
 
+/// The default project's natives are those that every node has, by their order and the sizes of
+/// their parameters.
+pub fn default_natives_are_known()
+    ensures { spec.HasKnownNatives }
+{}
+
 fn default_node(alloc: Global) -> Result<Description, Mem>
     ensures { IfOk result (λ node. node ≡ spec.default_node) }
 {

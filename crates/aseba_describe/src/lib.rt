@@ -13,7 +13,7 @@ mod plain;
 mod reading;
 mod spelling;
 
-pub use defaults::default_project;
+pub use defaults::{default_natives_are_known, default_project};
 pub use fault::ProjectError;
 pub use finding::native_line;
 pub use plain::is_plain;
