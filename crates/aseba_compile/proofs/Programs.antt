@@ -13,7 +13,7 @@ use Rattle.aseba_tree.specs.declared.placed.Placed.{Placed}
 use Rattle.aseba_tree.specs.View.{placed_view}
 use Rattle.aseba_compile.specs.Compiled.{IsCodeOf, IsProgram}
 use Rattle.aseba_compile.specs.CoreOf.{straight_core}
-use Rattle.aseba_compile.specs.StraightRun.{Fits, straight_words, straight_lines}
+use Rattle.aseba_compile.specs.StraightRun.{Fits, straight_words, straight_lines, straight_places}
 use Rattle.aseba_compile.specs.StraightWords.{IsStraightImage}
 use Rattle.aseba_compile.proofs.StraightCore.{core-shape, cells-fit}
 use Rattle.aseba_compile.proofs.StraightSound.{fits-straight}
@@ -39,7 +39,7 @@ table-lines : (program : tree.Program) → take (slice_index (straight_words pro
 table-lines program = refl
 
 code-of : (program : tree.Program) → Fits program → IsCodeOf program (straight_words program) (straight_lines program)
-code-of program fits = record { few = words-few program fits; lined = lines-long program; table = table-lines program; runs = λ m n begun. source_runs program m n fits begun }
+code-of program fits = record { few = words-few program fits; lined = lines-long program; table = table-lines program; places = straight_places program; runs = λ m n begun. source_runs program m n fits begun }
 
 pub program-is : (program : tree.Program) (image : Image) (places : List Placed) → IsStraightImage program image → All (λ word. word < 65536) image.words → map placed_view places ≡ layout program → IsProgram program (record { image = image; places = places })
 program-is program image places is words laid = record {

@@ -39,10 +39,10 @@ core_resting cells bits = record { cells = cells; bits = bits; held = core_none_
 
 -- The source does statements of its lines, and its core the same; or both have nothing to do.
 pub data Alike (program : Program) : State → CoreState → Type 0 where
-  both_go : {s : State} {c : CoreState} (cells : Cells) (bits core_bits : List Bool) (ss : Stmts) → Laid cells (variables program) → are_named program ss ≡ true
-      → s ≡ going cells bits ss → c ≡ core_going (all_cells_of cells) core_bits (core_stmts_of program ss) → Alike program s c
-  both_rest : {s : State} {c : CoreState} (cells : Cells) (bits core_bits : List Bool) → Laid cells (variables program)
-      → s ≡ resting cells bits → c ≡ core_resting (all_cells_of cells) core_bits → Alike program s c
+  both_go : {s : State} {c : CoreState} (cells : Cells) (bits : List Bool) (ss : Stmts) → Laid cells (variables program) → are_named program ss ≡ true
+      → s ≡ going cells bits ss → c ≡ core_going (all_cells_of cells) bits (core_stmts_of program ss) → Alike program s c
+  both_rest : {s : State} {c : CoreState} (cells : Cells) (bits : List Bool) → Laid cells (variables program)
+      → s ≡ resting cells bits → c ≡ core_resting (all_cells_of cells) bits → Alike program s c
 
 -- the states behind a step are alike, and it told the same
 pub record SteppedAlike (program : Program) (s : Stepped) (c : CoreStepped) : Type 0 where
@@ -98,28 +98,28 @@ stored-flat : (program : Program) (cells : Cells) (name : Name) (a : ℕ) (v : �
 stored-flat program cells name a v h e = let put = put-flat cells (variables program) name v h in simp (e, add-zero) at put
 
 -- the states behind a step whose results are known
-behind : (program : Program) (s : Stepped) (c : CoreStepped) (cells : Cells) (bits core_bits : List Bool) (ss : Stmts) (r : Option Report)
+behind : (program : Program) (s : Stepped) (c : CoreStepped) (cells : Cells) (bits : List Bool) (ss : Stmts) (r : Option Report)
     → Laid cells (variables program) → are_named program ss ≡ true
-    → s ≡ record { state = going cells bits ss; report = r } → c ≡ record { state = core_going (all_cells_of cells) core_bits (core_stmts_of program ss); report = r } → SteppedAlike program s c
-behind program s c cells bits core_bits ss r h k es ec = record {
-  states = both_go cells bits core_bits ss h k (ap (λ t. t.state) es) (ap (λ t. t.state) ec);
+    → s ≡ record { state = going cells bits ss; report = r } → c ≡ record { state = core_going (all_cells_of cells) bits (core_stmts_of program ss); report = r } → SteppedAlike program s c
+behind program s c cells bits ss r h k es ec = record {
+  states = both_go cells bits ss h k (ap (λ t. t.state) es) (ap (λ t. t.state) ec);
   reports = ap (λ t. t.report) es ∙ sym (ap (λ t. t.report) ec);
 }
 
 -- the cells and the address of an assignment to a variable that has one cell
-assigned-alike : (program : Program) (cells : Cells) (bits core_bits : List Bool) (line : ℕ) (place tp : Place) (name : Name) (part : Part) (first own : Place) (form : Form) (ss : Stmts) (a : ℕ)
+assigned-alike : (program : Program) (cells : Cells) (bits : List Bool) (line : ℕ) (place tp : Place) (name : Name) (part : Part) (first own : Place) (form : Form) (ss : Stmts) (a : ℕ)
     → Laid cells (variables program) → are_named program ss ≡ true → part ≡ all → address_of (variables program) name ≡ Some (a, 1)
     → Valued program cells form
     → SteppedAlike program (step program (going cells bits (stmts (stmt line place (assign (record { place = tp; name = name; part = part }) (expr first own form))) ss)))
-    (core_step (straight_program program) (core_going (all_cells_of cells) core_bits (core_stmts_of program (stmts (stmt line place (assign (record { place = tp; name = name; part = part }) (expr first own form))) ss))))
-assigned-alike program cells bits core_bits line place tp name part first own form ss a h k p e val =
+    (core_step (straight_program program) (core_going (all_cells_of cells) bits (core_stmts_of program (stmts (stmt line place (assign (record { place = tp; name = name; part = part }) (expr first own form))) ss))))
+assigned-alike program cells bits line place tp name part first own form ss a h k p e val =
     let one = one_cell cells (variables program) name a h e in
     let hv : value program.project.consts cells (expr first own form) ≡ Ok (val.cell ∷ []) = rw val.computed refl in
     let after = step-assign program cells bits line place (record { place = tp; name = name; part = part }) (expr first own form) ss val.cell hv (places-cell program cells tp name part a p one) in
     let low : nat_le (cells_of_variables program) a ≡ false = lt-leb (cells_of_variables program) a one.inside in
-    let core_after = core_step-store (straight_program program) (all_cells_of cells) core_bits line a val.core (core_stmts_of program ss) val.cell val.same low in
+    let core_after = core_step-store (straight_program program) (all_cells_of cells) bits line a val.core (core_stmts_of program ss) val.cell val.same low in
     let stored = stored-flat program cells name a val.cell h e in
-    behind program _ _ (put_cell cells name 0 val.cell) bits core_bits ss None (laid-put cells (variables program) name 0 val.cell h) k after (rw (e, val.element, ← stored) core_after)
+    behind program _ _ (put_cell cells name 0 val.cell) bits ss None (laid-put cells (variables program) name 0 val.cell h) k after (rw (e, val.element, ← stored) core_after)
 
 -- Sending
 
@@ -151,13 +151,13 @@ core_step-send : (program : CoreProgram) (cells : List ℤ) (bits : List Bool) (
 unfolding core_step
 core_step-send program cells bits line n ss = refl
 
-emitted-alike : (program : Program) (cells : Cells) (bits core_bits : List Bool) (line : ℕ) (place : Place) (name : Name) (ss : Stmts)
+emitted-alike : (program : Program) (cells : Cells) (bits : List Bool) (line : ℕ) (place : Place) (name : Name) (ss : Stmts)
     → Laid cells (variables program) → are_named program ss ≡ true → has_event program.project name ≡ true
     → SteppedAlike program (step program (going cells bits (stmts (stmt line place (emit name None)) ss)))
-    (core_step (straight_program program) (core_going (all_cells_of cells) core_bits (core_stmts_of program (stmts (stmt line place (emit name None)) ss))))
-emitted-alike program cells bits core_bits line place name ss h k e =
-    behind program _ _ cells bits core_bits ss (Some (sent (named name) [])) h k (step-emit program cells bits line place name ss)
-    (core_step-send (straight_program program) (all_cells_of cells) core_bits line (event_place program.project name) (core_stmts_of program ss) ∙ ap (λ t. record { state = core_going (all_cells_of cells) core_bits (core_stmts_of program ss); report = Some (sent t []) }) (sent-event program.project name e))
+    (core_step (straight_program program) (core_going (all_cells_of cells) bits (core_stmts_of program (stmts (stmt line place (emit name None)) ss))))
+emitted-alike program cells bits line place name ss h k e =
+    behind program _ _ cells bits ss (Some (sent (named name) [])) h k (step-emit program cells bits line place name ss)
+    (core_step-send (straight_program program) (all_cells_of cells) bits line (event_place program.project name) (core_stmts_of program ss) ∙ ap (λ t. record { state = core_going (all_cells_of cells) bits (core_stmts_of program ss); report = Some (sent t []) }) (sent-event program.project name e))
 
 -- All statements
 
@@ -165,42 +165,42 @@ emitted-alike program cells bits core_bits line place name ss h k e =
 abbrev is_named : Program → StmtForm → Bool
 is_named program form = is_straight_form (has_event program.project) (has_one_cell_named (variables program)) (is_value program.project.consts (variables program)) form
 
-first-alike : (program : Program) (cells : Cells) (bits core_bits : List Bool) (line : ℕ) (place : Place) (form : StmtForm) (ss : Stmts) → Laid cells (variables program) → are_named program ss ≡ true → is_named program form ≡ true
+first-alike : (program : Program) (cells : Cells) (bits : List Bool) (line : ℕ) (place : Place) (form : StmtForm) (ss : Stmts) → Laid cells (variables program) → are_named program ss ≡ true → is_named program form ≡ true
     → SteppedAlike program (step program (going cells bits (stmts (stmt line place form) ss)))
-    (core_step (straight_program program) (core_going (all_cells_of cells) core_bits (core_stmts_of program (stmts (stmt line place form) ss))))
-first-alike program cells bits core_bits line place (assign target (expr first own form)) ss h k e =
+    (core_step (straight_program program) (core_going (all_cells_of cells) bits (core_stmts_of program (stmts (stmt line place form) ss))))
+first-alike program cells bits line place (assign target (expr first own form)) ss h k e =
     let ds = variables program in
     let names = is_value program.project.consts ds in
     let front = both_left (is_all target.part && has_one_cell_named ds target.name) (is_sum_form names form) e in
     let cell = cell_place (address_of ds target.name) (both_right (is_all target.part) (has_one_cell_named ds target.name) front) in
-    assigned-alike program cells bits core_bits line place target.place target.name target.part first own form ss cell.0 h k
+    assigned-alike program cells bits line place target.place target.name target.part first own form ss cell.0 h k
     (all_part target.part (both_left (is_all target.part) (has_one_cell_named ds target.name) front)) cell.1
     (sum-valued program cells form h (both_right (is_all target.part && has_one_cell_named ds target.name) (is_sum_form names form) e))
-first-alike program cells bits core_bits line place (emit name None) ss h k e = emitted-alike program cells bits core_bits line place name ss h k e
-first-alike program cells bits core_bits line place (emit name (Some i)) ss h k e = cc
-first-alike program cells bits core_bits line place (change target op i) ss h k e = cc
-first-alike program cells bits core_bits line place (bump target op) ss h k e = cc
-first-alike program cells bits core_bits line place (if_then c body other) ss h k e = cc
-first-alike program cells bits core_bits line place (when_do c body) ss h k e = cc
-first-alike program cells bits core_bits line place (while_do c body) ss h k e = cc
-first-alike program cells bits core_bits line place (for_do head body) ss h k e = cc
-first-alike program cells bits core_bits line place (callsub name) ss h k e = cc
-first-alike program cells bits core_bits line place (call name es) ss h k e = cc
-first-alike program cells bits core_bits line place return ss h k e = cc
+first-alike program cells bits line place (emit name None) ss h k e = emitted-alike program cells bits line place name ss h k e
+first-alike program cells bits line place (emit name (Some i)) ss h k e = cc
+first-alike program cells bits line place (change target op i) ss h k e = cc
+first-alike program cells bits line place (bump target op) ss h k e = cc
+first-alike program cells bits line place (if_then c body other) ss h k e = cc
+first-alike program cells bits line place (when_do c body) ss h k e = cc
+first-alike program cells bits line place (while_do c body) ss h k e = cc
+first-alike program cells bits line place (for_do head body) ss h k e = cc
+first-alike program cells bits line place (callsub name) ss h k e = cc
+first-alike program cells bits line place (call name es) ss h k e = cc
+first-alike program cells bits line place return ss h k e = cc
 
-going-alike : (program : Program) (cells : Cells) (bits core_bits : List Bool) (ss : Stmts) → Laid cells (variables program) → are_named program ss ≡ true
-    → SteppedAlike program (step program (going cells bits ss)) (core_step (straight_program program) (core_going (all_cells_of cells) core_bits (core_stmts_of program ss)))
-going-alike program cells bits core_bits no_stmts h k =
+going-alike : (program : Program) (cells : Cells) (bits : List Bool) (ss : Stmts) → Laid cells (variables program) → are_named program ss ≡ true
+    → SteppedAlike program (step program (going cells bits ss)) (core_step (straight_program program) (core_going (all_cells_of cells) bits (core_stmts_of program ss)))
+going-alike program cells bits no_stmts h k =
     let after = step-finish program cells bits in
-    let core_after = core_step-finish (straight_program program) (all_cells_of cells) core_bits in
-    record { states = both_rest cells bits core_bits h (ap (λ t. t.state) after) (ap (λ t. t.state) core_after); reports = ap (λ t. t.report) after ∙ sym (ap (λ t. t.report) core_after) }
-going-alike program cells bits core_bits (stmts (stmt line place form) ss) h k =
-    first-alike program cells bits core_bits line place form ss h (both_right (is_named program form) (are_named program ss) k)
+    let core_after = core_step-finish (straight_program program) (all_cells_of cells) bits in
+    record { states = both_rest cells bits h (ap (λ t. t.state) after) (ap (λ t. t.state) core_after); reports = ap (λ t. t.report) after ∙ sym (ap (λ t. t.report) core_after) }
+going-alike program cells bits (stmts (stmt line place form) ss) h k =
+    first-alike program cells bits line place form ss h (both_right (is_named program form) (are_named program ss) k)
     (both_left (is_named program form) (are_named program ss) k)
 
 pub step-alike : (program : Program) (s : State) (c : CoreState) → Alike program s c → SteppedAlike program (step program s) (core_step (straight_program program) c)
-step-alike program s c (both_go cells bits core_bits ss h k es ec) = rw (es, ec) (going-alike program cells bits core_bits ss h k)
-step-alike program s c (both_rest cells bits core_bits h es ec) =
+step-alike program s c (both_go cells bits ss h k es ec) = rw (es, ec) (going-alike program cells bits ss h k)
+step-alike program s c (both_rest cells bits h es ec) =
     let after = ap (step program) es ∙ step-resting program cells bits in
-    let core_after = ap (core_step (straight_program program)) ec ∙ core_step-resting (straight_program program) (all_cells_of cells) core_bits in
-    record { states = both_rest cells bits core_bits h (ap (λ t. t.state) after) (ap (λ t. t.state) core_after); reports = ap (λ t. t.report) after ∙ sym (ap (λ t. t.report) core_after) }
+    let core_after = ap (core_step (straight_program program)) ec ∙ core_step-resting (straight_program program) (all_cells_of cells) bits in
+    record { states = both_rest cells bits h (ap (λ t. t.state) after) (ap (λ t. t.state) core_after); reports = ap (λ t. t.report) after ∙ sym (ap (λ t. t.report) core_after) }

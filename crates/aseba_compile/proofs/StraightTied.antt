@@ -40,8 +40,8 @@ abbrev pub Straight : Program → CoreState → State → Type 0
 Straight program c s = Alike program s c
 
 runs-alike : (program : Program) (s : State) (c : CoreState) → Alike program s c → core_is_running c ≡ is_running s
-runs-alike program s c (both_go cells bits core_bits ss h k es ec) = rw (es, ec) refl
-runs-alike program s c (both_rest cells bits core_bits h es ec) = rw (es, ec) refl
+runs-alike program s c (both_go cells bits ss h k es ec) = rw (es, ec) refl
+runs-alike program s c (both_rest cells bits h es ec) = rw (es, ec) refl
 
 -- Natives
 
@@ -72,24 +72,24 @@ core-uncalled program before (stmts (stmt line place (call name es)) ss) cells =
 core-uncalled program before (stmts (stmt line place return) ss) cells = refl
 
 core-none : (program : Program) (s : State) (c : CoreState) → Alike program s c → core_next_native (straight_program program) c ≡ None
-core-none program s c (both_go cells bits core_bits ss h k es ec) = rw ec (core-uncalled program 0 ss (all_cells_of cells))
-core-none program s c (both_rest cells bits core_bits h es ec) = rw ec refl
+core-none program s c (both_go cells bits ss h k es ec) = rw ec (core-uncalled program 0 ss (all_cells_of cells))
+core-none program s c (both_rest cells bits h es ec) = rw ec refl
 
 -- nor does one of the source
 source-none : (program : Program) (s : State) (c : CoreState) → Alike program s c → next_native program s ≡ None
-source-none program s c (both_go cells bits core_bits no_stmts h k es ec) = rw es refl
-source-none program s c (both_go cells bits core_bits (stmts (stmt line place (assign target e)) ss) h k es ec) = rw es refl
-source-none program s c (both_go cells bits core_bits (stmts (stmt line place (change target op i)) ss) h k es ec) = rw es refl
-source-none program s c (both_go cells bits core_bits (stmts (stmt line place (bump target op)) ss) h k es ec) = rw es refl
-source-none program s c (both_go cells bits core_bits (stmts (stmt line place (if_then i body other)) ss) h k es ec) = rw es refl
-source-none program s c (both_go cells bits core_bits (stmts (stmt line place (when_do i body)) ss) h k es ec) = rw es refl
-source-none program s c (both_go cells bits core_bits (stmts (stmt line place (while_do i body)) ss) h k es ec) = rw es refl
-source-none program s c (both_go cells bits core_bits (stmts (stmt line place (for_do head body)) ss) h k es ec) = rw es refl
-source-none program s c (both_go cells bits core_bits (stmts (stmt line place (emit name argument)) ss) h k es ec) = rw es refl
-source-none program s c (both_go cells bits core_bits (stmts (stmt line place (callsub name)) ss) h k es ec) = rw es refl
-source-none program s c (both_go cells bits core_bits (stmts (stmt line place (call name args)) ss) h k es ec) = absurd (true≢false (sym k))
-source-none program s c (both_go cells bits core_bits (stmts (stmt line place return) ss) h k es ec) = rw es refl
-source-none program s c (both_rest cells bits core_bits h es ec) = rw es refl
+source-none program s c (both_go cells bits no_stmts h k es ec) = rw es refl
+source-none program s c (both_go cells bits (stmts (stmt line place (assign target e)) ss) h k es ec) = rw es refl
+source-none program s c (both_go cells bits (stmts (stmt line place (change target op i)) ss) h k es ec) = rw es refl
+source-none program s c (both_go cells bits (stmts (stmt line place (bump target op)) ss) h k es ec) = rw es refl
+source-none program s c (both_go cells bits (stmts (stmt line place (if_then i body other)) ss) h k es ec) = rw es refl
+source-none program s c (both_go cells bits (stmts (stmt line place (when_do i body)) ss) h k es ec) = rw es refl
+source-none program s c (both_go cells bits (stmts (stmt line place (while_do i body)) ss) h k es ec) = rw es refl
+source-none program s c (both_go cells bits (stmts (stmt line place (for_do head body)) ss) h k es ec) = rw es refl
+source-none program s c (both_go cells bits (stmts (stmt line place (emit name argument)) ss) h k es ec) = rw es refl
+source-none program s c (both_go cells bits (stmts (stmt line place (callsub name)) ss) h k es ec) = rw es refl
+source-none program s c (both_go cells bits (stmts (stmt line place (call name args)) ss) h k es ec) = absurd (true≢false (sym k))
+source-none program s c (both_go cells bits (stmts (stmt line place return) ss) h k es ec) = rw es refl
+source-none program s c (both_rest cells bits h es ec) = rw es refl
 
 -- Variables
 

@@ -17,12 +17,14 @@ use Rattle.aseba_compile.specs.Meaning.{RunsAsMeant}
 use Rattle.aseba_compile.specs.Refused.{IsTreeRefused}
 
 -- The words are code of a source: they are at most as many as its plain code has; each has a line, which is 0 in the event table, whose length is the first
--- word; and however long they run, on any machine of the node that was reset over code which begins with them, they run as the source means.
+-- word; the bits of the source's `when`s have their places among them; and however long they run, on any machine of the node that was reset over code which
+-- begins with them, they run as the source means.
 pub record IsCodeOf (source : tree.Program) (words lines : List ℕ) : Type 0 where
   pub few : length words ≤ source_words source
   pub lined : length lines ≡ length words
   pub table : take (slice_index words 0) lines ≡ replicate (slice_index words 0) 0
-  pub runs : (m : State) (n : ℕ) → IsStarted source.project words m → RunsAsMeant source lines m n
+  pub places : List ℕ
+  pub runs : (m : State) (n : ℕ) → IsStarted source.project words m → RunsAsMeant source lines places m n
 
 -- A program of a sound source all of whose forms are compiled: its words have 16 bits, fit the node and are code of the source, and its variables lie in the
 -- layout.

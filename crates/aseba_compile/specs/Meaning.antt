@@ -13,11 +13,11 @@ use Rattle.aseba_compile.specs.Standing.{MatchesSource}
 -- What the machine alone tells of a run is what the source means where a step is done at each tick that is an effect of the machine: but that the machine
 -- has a place of the code where the source has a line, which `lines` gives for the place. Both show the same at each tick. These ticks keep the source's
 -- pace. After the last of them the machine stands at the source's state after as many steps, and no tick was a node error.
-pub record RunsAsMeant (program : Program) (lines : List ℕ) (m : State) (n : ℕ) : Type 0 where
+pub record RunsAsMeant (program : Program) (lines places : List ℕ) (m : State) (n : ℕ) : Type 0 where
   pub lines_same : map (line_by (slice_index lines)) (machine_lines program.project (layout_of program) m [] n)
       ≡ source_lines program [] (machine_beats program.project (layout_of program) m [] n)
   pub same_moments : machine_moments program.project (layout_of program) m [] n ≡ source_moments program [] (machine_beats program.project (layout_of program) m [] n)
   pub paced : Paced (source_weight program) (source_moments program [] (machine_beats program.project (layout_of program) m [] n))
-  pub stands : MatchesSource program lines (machine_run program.project (layout_of program) m [] n).state
+  pub stands : MatchesSource program lines places (machine_run program.project (layout_of program) m [] n).state
       (source_run program [] (machine_beats program.project (layout_of program) m [] n)).state
   pub no_error : HasNoError (machine_moments program.project (layout_of program) m [] n)

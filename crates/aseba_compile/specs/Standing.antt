@@ -5,16 +5,18 @@ use Rattle.aseba_tree.specs.State as tree
 use Rattle.aseba_tree.specs.Step.{next_line}
 use Rattle.aseba_tree.specs.Value.{Named}
 use Rattle.aseba_vm.specs.State as machine
+use Rattle.aseba_codegen.specs.Places.{bits_at}
 
 -- what all variables have, one behind the other
 abbrev pub all_cells_of : {A : Type 0} → Named A → List A
 all_cells_of [] = []
 all_cells_of (v ∷ vs) = v.1 ++ all_cells_of vs
 
--- The cells of the variables, what is held for them and the flags are those of the source's state; and where a handler is active, the machine's counter is on the
--- line of the effect that is next. No form that is compiled so far is a `when`, so there are no bits to compare.
-pub record MatchesSource (program : tree.Program) (lines : List ℕ) (m : machine.State) (s : tree.State) : Type 0 where
+-- The cells of the variables, the `when` bits, what is held for the variables and the flags are those of the source's state; and where a handler is active, the
+-- machine's counter is on the line of the effect that is next. The bits of the `when`s, in the order of the text, stand at `places` of the machine's code.
+pub record MatchesSource (program : tree.Program) (lines places : List ℕ) (m : machine.State) (s : tree.State) : Type 0 where
   pub cells : take (cells_of_variables program) m.cells ≡ all_cells_of s.cells
+  pub bits : bits_at m.code places ≡ s.bits
   pub held : take (cells_of_variables program) m.held ≡ all_cells_of s.held
   pub active : m.active ≡ s.active
   pub paused : m.paused ≡ s.paused

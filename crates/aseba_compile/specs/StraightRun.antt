@@ -10,6 +10,7 @@ use Rattle.aseba_tree.specs.Value.{is_cell}
 use Rattle.aseba_codegen.specs.Agrees.{IsNode}
 use Rattle.aseba_vm.specs.State.{State}
 use Rattle.aseba_target.specs.Node.{IsStarted}
+use Rattle.aseba_codegen.specs.Places.{edge_places}
 use Rattle.aseba_codegen.specs.Words.{code_words, code_lines}
 use Rattle.aseba_compile.specs.Meaning.{RunsAsMeant}
 use Rattle.aseba_compile.specs.Straight.{has_only_built_forms}
@@ -40,6 +41,10 @@ straight_words program = code_words program.project (straight_core program)
 abbrev pub straight_lines : Program → List ℕ
 straight_lines program = code_lines program.project (straight_core program)
 
+-- where the bits of its `when`s stand in them
+abbrev pub straight_places : Program → List ℕ
+straight_places program = edge_places program.project (straight_core program)
+
 -- The words of each straight source that fits its node run as the source means, whatever stands behind them in the machine's code.
 abbrev pub StraightWordsRun : Type 0
-StraightWordsRun = (program : Program) (m : State) (n : ℕ) → Fits program → IsStarted program.project (straight_words program) m → RunsAsMeant program (straight_lines program) m n
+StraightWordsRun = (program : Program) (m : State) (n : ℕ) → Fits program → IsStarted program.project (straight_words program) m → RunsAsMeant program (straight_lines program) (straight_places program) m n
