@@ -208,7 +208,7 @@ module _ (project : Project) (variables : List Sized) (init : CoreStmts) (cells 
       by_test false = refl
 
   -- straight code has no places to remember
-  no_places : is_straight init ≡ true → edge_places project alone ≡ []
+  pub no_places : is_straight init ≡ true → edge_places project alone ≡ []
   no_places straight =
       let init_edges : NoEdge (init_code project (part_starts project alone) alone) = no_edge-append (list_code site init) (on_line 1 (end_word ∷ [])) (no_edge-list site init straight) (no_edge-line 1 (end_word ∷ [])) in
       ap (λ places. places ++ []) (no_edge-places (init_start project alone) (init_code project (part_starts project alone) alone) init_edges)

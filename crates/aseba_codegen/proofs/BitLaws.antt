@@ -1,9 +1,9 @@
 -- What a memory has at places is what it was said to have there.
 use Rattle.std.proofs.Common.{◌≡◌, ℕ, zero, suc, ◌+◌, ◌-◌, ◌*◌, ◌/◌, ◌%◌, Bool, true, false, List, [], ◌∷◌, slice_get, slice_index_or, Some, refl, sym, ap, ◌∙◌, arith}
 use Rattle.std.specs.Prelude.{◌==◌}
-use Rattle.aseba_vm.specs.Instructions.{was_true, remembering}
+use Rattle.aseba_vm.specs.Instructions.{bits_at, was_true, remembering}
 use Rattle.aseba_codegen.specs.declared.coded.Coded.{Coded}
-use Rattle.aseba_codegen.specs.Places.{word_at, HasBits, bits_at}
+use Rattle.aseba_codegen.specs.Places.{word_at, HasBits}
 
 remembered : (bit : Bool) (word : ℕ) → was_true (remembering bit word) ≡ bit
 remembered true word = let e : (word - word / 512 % 2 * 512 + 512) / 512 % 2 ≡ 1 = omega arith in ap (λ n. n == 1) e

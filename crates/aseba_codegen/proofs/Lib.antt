@@ -1,4 +1,4 @@
-mod Begin
+pub mod Begin
 pub mod BitLaws
 mod Exprs
 pub mod FormAnswers

@@ -64,7 +64,7 @@ pub record Seen (code : List Coded) (places : List ℕ) (cells : ℕ) (m : State
 abbrev pub words_of : CoreProgram → List ℕ
 words_of program = code_words program.project program.core
 
--- A layout of a core's variables: the cells are those of its variables together, which begin with the node's, and the same variables are shown.
+-- A layout of a core's variables: the cells are those of its variables together, and the same variables are shown.
 pub record IsLaidOut (program : CoreProgram) (layout : Layout) : Type 0 where
   pub cells : layout.cells ≡ program.core.cells
   pub together : sum_by (λ v. v.size) program.variables ≡ program.core.cells

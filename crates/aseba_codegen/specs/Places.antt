@@ -1,8 +1,8 @@
 -- Where the branch words of `when`s stand in the code, in the order of the text, and what is remembered there.
-use Rattle.std.specs.Prelude.{◌≡◌, ℕ, ◌+◌, Bool, if◌then◌else◌, List, [], ◌∷◌, ◌++◌, map, slice_get, slice_index, slice_index_or, Some}
+use Rattle.std.specs.Prelude.{◌≡◌, ℕ, ◌+◌, Bool, if◌then◌else◌, List, [], ◌∷◌, ◌++◌, map, slice_get, slice_index, Some}
 use Rattle.aseba_tree.specs.Code.{Project}
 use Rattle.aseba_tree.specs.Core.{CorePart, Core}
-use Rattle.aseba_vm.specs.Instructions.{was_true, remembering}
+use Rattle.aseba_vm.specs.Instructions.{bits_at, remembering}
 use Rattle.aseba_codegen.specs.declared.coded.Coded.{Coded}
 use Rattle.aseba_codegen.specs.Words.{part_code, init_code, init_start, part_starts}
 
@@ -32,10 +32,6 @@ abbrev pub HasBits : List Coded → (memory places : List ℕ) → List Bool →
 HasBits code memory [] [] = Unit {0}
 HasBits code memory (at ∷ places) (bit ∷ bits) = (slice_get memory at ≡ Some (remembering bit (word_at code at))) × HasBits code memory places bits
 HasBits code memory _ _ = ⊥
-
--- the truths that a memory has at places
-abbrev pub bits_at : (memory places : List ℕ) → List Bool
-bits_at memory places = map (λ at. was_true (slice_index_or memory at 0)) places
 
 -- those that the memory was said to have
 abbrev pub BitsStandAtPlaces : Type 0

@@ -13,8 +13,8 @@ use Rattle.aseba_words.specs.declared.operators.Binary.TheVariants.{Equal}
 use Rattle.aseba_tree.specs.Code.{Name, Sized, Project}
 use Rattle.aseba_tree.specs.CoreExpr.{CoreExpr, fixed, cell, infix_of, into}
 use Rattle.aseba_tree.specs.Core.{CoreStmt, core_stmt, store, on_edge, enter, CoreStmts, no_core, core_stmts, Core}
-use Rattle.aseba_vm.specs.Instructions.{remembering}
-use Rattle.aseba_codegen.specs.Places.{edge_places, word_at, HasBits, bits_at}
+use Rattle.aseba_vm.specs.Instructions.{bits_at, remembering}
+use Rattle.aseba_codegen.specs.Places.{edge_places, word_at, HasBits}
 use Rattle.aseba_codegen.specs.Words.{core_code, code_words}
 
 abbrev sized : Name → ℕ → Sized

@@ -1,6 +1,7 @@
 //! The words of a source in element form: the generator, the definitions over which the compiler
-//! speaks, and the law that the machine runs straight code as its core does. The law is a function
-//! with an empty body, so that a check proves what it says.
+//! speaks, and the laws that the machine runs straight code as its core does and that the bits of
+//! `when`s stand at their places. The laws are functions with an empty body, so that a check proves
+//! what they say.
 #![tactic(auto)]
 
 ghost use Rattle.aseba_codegen.specs.Agrees.{StraightCodeRuns};

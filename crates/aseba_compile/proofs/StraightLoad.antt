@@ -65,9 +65,9 @@ list-whens : (signals cells names : Name → Bool) (ss : Stmts) → are_straight
 list-whens signals cells names no_stmts h = refl
 list-whens signals cells names (stmts (stmt line place form) ss) h =
     omega (
-        arith,
-        form-whens signals cells names form (both_left (is_straight_form signals cells names form) (are_straight signals cells names ss) h),
-        list-whens signals cells names ss (both_right (is_straight_form signals cells names form) (are_straight signals cells names ss) h),
+      arith,
+      form-whens signals cells names form (both_left (is_straight_form signals cells names form) (are_straight signals cells names ss) h),
+      list-whens signals cells names ss (both_right (is_straight_form signals cells names form) (are_straight signals cells names ss) h),
     )
 
 core-form-whens : (program : Program) (form : StmtForm) → core_form_whens (core_form_of program form) ≡ 0

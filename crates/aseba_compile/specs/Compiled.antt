@@ -1,5 +1,6 @@
 -- What the compiler answers: a program that runs as the text means, or why there is none.
 use Rattle.std.specs.Prelude.{◌≡◌, ℕ, ◌<◌, ◌≤◌, true, All, List, length, map, replicate, slice_index, take}
+use Rattle.std.specs.List.{list_all}
 use Rattle.aseba_tree.specs.Code.{Project, Source}
 use Rattle.aseba_tree.specs.State as tree
 use Rattle.aseba_tree.specs.Layout.{layout, cells_of_variables}
@@ -14,16 +15,18 @@ use Rattle.aseba_compile.specs.declared.refusal.Refusal.TheVariants.{Lex, Syntax
 use Rattle.aseba_compile.specs.Reading.{IsOnlyTree, IsTextRefused}
 use Rattle.aseba_compile.specs.Straight.{has_only_built_forms}
 use Rattle.aseba_compile.specs.Meaning.{RunsAsMeant}
+use Rattle.aseba_compile.specs.Standing.{is_when_at}
 use Rattle.aseba_compile.specs.Refused.{IsTreeRefused}
 
 -- The words are code of a source: they are at most as many as its plain code has; each has a line, which is 0 in the event table, whose length is the first
--- word; the bits of the source's `when`s have their places among them; and however long they run, on any machine of the node that was reset over code which
+-- word; the bits of the source's `when`s have their places among them, each at a branch of a `when`; and however long they run, on any machine of the node that was reset over code which
 -- begins with them, they run as the source means.
 pub record IsCodeOf (source : tree.Program) (words lines : List ℕ) : Type 0 where
   pub few : length words ≤ source_words source
   pub lined : length lines ≡ length words
   pub table : take (slice_index words 0) lines ≡ replicate (slice_index words 0) 0
   pub places : List ℕ
+  pub whens : list_all (is_when_at words) places ≡ true
   pub runs : (m : State) (n : ℕ) → IsStarted source.project words m → RunsAsMeant source lines places m n
 
 -- A program of a sound source all of whose forms are compiled: its words have 16 bits, fit the node and are code of the source, and its variables lie in the

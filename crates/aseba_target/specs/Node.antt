@@ -1,5 +1,5 @@
 -- What a project's node is to those who run it: where variables lie, the shape of its machine, and the machine at the beginning.
-use Rattle.std.specs.Prelude.{◌≡◌, ℕ, false, List, length, take, sum_by, option_map, unwrap_or, codes}
+use Rattle.std.specs.Prelude.{◌≡◌, ℕ, ◌≤◌, false, List, length, take, sum_by, option_map, unwrap_or, codes}
 use Rattle.aseba_tree.specs.Code.{Name, Project}
 use Rattle.aseba_tree.specs.State.{Program, node_variables, declared}
 use Rattle.aseba_tree.specs.Layout.{Placed, placed_from, placed_named, cells_of_variables}
@@ -45,3 +45,7 @@ pub record IsStarted (project : Project) (words : List ℕ) (m : State) : Type 0
   pub long : length before.code ≡ project.node.code
   pub held : length before.held ≡ project.node.cells
   pub reset : m ≡ reset_state false before
+
+-- the node's machine with the words in its empty code is such a one, where they have room
+abbrev pub FreshMachineIsStarted : Type 0
+FreshMachineIsStarted = (project : Project) (words : List ℕ) → length words ≤ project.node.code → IsStarted project words (started project words)

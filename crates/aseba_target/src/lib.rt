@@ -1,9 +1,10 @@
 //! What a project's node is to those who run it: the shape of its machine, where its named cells
-//! lie, the numbers of its events, and its machine as a system that runs. The laws are functions
-//! with an empty body, so that a check proves what they say.
+//! lie, and its machine as a system that runs. The laws are functions with an empty body, so that a
+//! check proves what they say.
 #![tactic(auto)]
 
 ghost use Rattle.aseba_target.specs.Beats.{BeatsAreTicks, TrueBeatsAreEffects};
+ghost use Rattle.aseba_target.specs.Node.{FreshMachineIsStarted};
 ghost use Rattle.aseba_target.specs.Worked.{ForLoop, KillInExpression, SubCall, WhenEdge};
 
 mod node;
@@ -18,6 +19,11 @@ pub fn beats_are_ticks()
 /// The number of effects that a run counts is that of its true beats.
 pub fn true_beats_are_effects()
     ensures { TrueBeatsAreEffects }
+{}
+
+/// A fresh machine into which words are loaded, and which is reset then, begins with them.
+pub fn fresh_machine_is_started()
+    ensures { FreshMachineIsStarted }
 {}
 
 /// Small programs come to the lines that were worked by hand.

@@ -1,5 +1,5 @@
 -- The tools, which words are a command line of one, and what a call does of it.
-use Rattle.std.specs.Prelude.{◌≡◌, ℕ, ◌⊎◌, ◌&&◌, Bool, false, not, List, [], ◌∷◌, Option, Some, None, IsSomeAnd, is_some, if◌then◌else◌, nat_eq, codes, option_map, option_and_then}
+use Rattle.std.specs.Prelude.{◌≡◌, ℕ, ◌⊎◌, ◌&&◌, Bool, true, false, not, List, [], ◌∷◌, Option, Some, None, IsSomeAnd, is_some, if◌then◌else◌, nat_eq, codes, option_map, option_and_then}
 use Rattle.std.specs.List.{starts_with}
 use Rattle.std.specs.Str.{bytes_eq}
 use Rattle.clap.specs.Words.{Row, Text, first_of}
@@ -71,6 +71,11 @@ tool_command tool words = option_map (command_in tool) (found (words_of tool) wo
 abbrev pub named : List Text → Option Command
 named [] = None
 named (name ∷ words) = option_and_then (λ tool. tool_command tool words) (tool_named name)
+
+-- there is no first word, or it names no tool
+abbrev pub names_no_tool : List Text → Bool
+names_no_tool [] = true
+names_no_tool (name ∷ words) = not (is_some (tool_named name))
 
 -- a target that begins so is a link, and no file
 abbrev pub names_link : Text → Bool

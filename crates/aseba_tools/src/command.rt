@@ -3,7 +3,7 @@
 ghost use Rattle.std.specs.Prelude.{◌≡◌, None, IfErr, IfOk, Some, true, map, option_map, string_bytes};
 ghost use Rattle.clap.specs.Words.{found_of, is_simple_and_free, rows_of};
 ghost use Rattle.aseba_edge.specs.Counts.{Counts};
-ghost use Rattle.aseba_tools.specs.Command.{Does, command_in, command_view, named};
+ghost use Rattle.aseba_tools.specs.Command.{Does, command_in, command_view, named, names_no_tool};
 ghost use Rattle.aseba_tools.specs.Command as spec;
 ghost use Rattle.aseba_tools.specs.Outcome.{is_read_fault, is_write_fault};
 ghost use Rattle.aseba_tools.specs.Words.{Unread, app, word_view};
@@ -195,6 +195,7 @@ pub fn read_command<'a>(alloc: Global, words: &'a [String]) -> Result<Command<'a
     ensures read { IfOk result (λ command. spec.command_of (map string_bytes words.now) ≡ Some (command_view command)) }
     ensures built { IfOk result (λ command. spec.is_built (command_view command) ≡ true) }
     ensures unread { IfErr result (Unread (spec.command_of (map string_bytes words.now))) }
+    ensures no_tool { names_no_tool (map string_bytes words.now) ≡ true → result ≡ Err Status.Usage }
 {
     let command = named_command(alloc, words)?;
     if command.is_built() {
@@ -208,6 +209,7 @@ pub fn read_command<'a>(alloc: Global, words: &'a [String]) -> Result<Command<'a
 fn named_command<'a>(alloc: Global, words: &'a [String]) -> Result<Command<'a>, Status>
     ensures read { IfOk result (λ command. named (map string_bytes words.now) ≡ Some (command_view command)) }
     ensures unread { IfErr result (Unread (named (map string_bytes words.now))) }
+    ensures no_tool { names_no_tool (map string_bytes words.now) ≡ true → result ≡ Err Status.Usage }
 {
     let [name, rest @ ..] = words else {
         return Err(Status::Usage);

@@ -1,6 +1,6 @@
-ghost use Rattle.std.specs.Prelude.{◌≡◌, false, None, map, option_map, string_bytes};
+ghost use Rattle.std.specs.Prelude.{◌≡◌, false, true, None, map, option_map, string_bytes};
 ghost use Rattle.aseba_edge.specs.Counts.{Counts};
-ghost use Rattle.aseba_tools.specs.Command.{Did, command_of};
+ghost use Rattle.aseba_tools.specs.Command.{Did, command_of, names_no_tool};
 ghost use Rattle.aseba_tools.specs.Outcome.{MessagePut, is_read_fault, is_write_fault};
 ghost use Rattle.aseba_tools.specs.StatusText.{message_of};
 
@@ -38,6 +38,7 @@ pub fn run<F: Files, D: Dialer, S: Sink, E: Sink, C: Clock>(
     requires clock_is_fresh { C.has_answered clock.old ≡ false }
     requires clock_is_low { C.floor clock.old ≡ 0 }
     ensures usage { result.status ≡ Status.Usage → command_of (map string_bytes words.now) ≡ None }
+    ensures no_tool { names_no_tool (map string_bytes words.now) ≡ true → result.status ≡ Status.Usage }
     ensures did { Did (command_of (map string_bytes words.now)) (λ name. option_map (λ files. files name) (F.contents files.old)) (S.taken out.old) (S.taken out.new) result.status }
     ensures nothing_for_usage { result.status ≡ Status.Usage → S.taken out.new ≡ S.taken out.old }
     ensures read_fault { Counts (is_read_fault result.status) (F.faults files.old) (F.faults files.new) }
@@ -63,6 +64,7 @@ pub fn run<F: Files, D: Dialer, S: Sink, E: Sink, C: Clock>(
 /// Does what the words ask for.
 fn do_tool<F: Files, S: Sink>(alloc: Global, words: &[String], files: &mut F, out: &mut S) -> Status
     ensures usage { result ≡ Status.Usage → command_of (map string_bytes words.now) ≡ None }
+    ensures no_tool { names_no_tool (map string_bytes words.now) ≡ true → result ≡ Status.Usage }
     ensures did { Did (command_of (map string_bytes words.now)) (λ name. option_map (λ files. files name) (F.contents files.old)) (S.taken out.old) (S.taken out.new) result }
     ensures nothing_for_usage { result ≡ Status.Usage → S.taken out.new ≡ S.taken out.old }
     ensures read_fault { Counts (is_read_fault result) (F.faults files.old) (F.faults files.new) }

@@ -45,7 +45,7 @@ line_by f (told t k report) = told t k (report_by f report)
 line_by f (var name cells) = var name cells
 line_by f (end t k) = end t k
 
--- a number behind a blank, and a list of cells with a blank before each
+-- an event as it is told
 abbrev pub event_text : Event → List ℕ
 event_text (named name) = name
 event_text (numbered n) = decimal n

@@ -1,5 +1,5 @@
 -- How an instruction word is read: its high four bits name the instruction, and its low twelve bits are a number.
-use Rattle.std.specs.Prelude.{ℕ, ◌+◌, ◌-◌, ◌*◌, ◌/◌, ◌%◌, ◌==◌, nat_lt, Bool, if◌then◌else◌, List, [], ◌∷◌, slice_index_or, Option, ℤ, pos, ◌-ℤ◌}
+use Rattle.std.specs.Prelude.{ℕ, ◌+◌, ◌-◌, ◌*◌, ◌/◌, ◌%◌, ◌==◌, nat_lt, Bool, if◌then◌else◌, List, [], ◌∷◌, map, slice_index_or, Option, ℤ, pos, ◌-ℤ◌}
 use Rattle.aseba_words.specs.Codes.{unary_coded, binary_coded}
 use Rattle.aseba_words.specs.declared.operators.Unary.{Unary}
 use Rattle.aseba_words.specs.declared.operators.Binary.{Binary}
@@ -39,6 +39,10 @@ is_when word = (word / 256 % 2) == 1
 -- bit 9 of a branch: whether its condition was true when it was tested last
 abbrev pub was_true : ℕ → Bool
 was_true word = (word / 512 % 2) == 1
+
+-- these truths of the branches that a memory has at places
+abbrev pub bits_at : (memory places : List ℕ) → List Bool
+bits_at memory places = map (λ at. was_true (slice_index_or memory at 0)) places
 
 -- the branch with this truth in bit 9
 abbrev pub remembering : Bool → ℕ → ℕ

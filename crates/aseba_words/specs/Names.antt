@@ -1,3 +1,4 @@
+-- How a name is held, and which bytes it shows.
 use Rattle.std.specs.Prelude.{ℕ, List, ◌≤◌, take}
 use Rattle.std.specs.Box.{boxed_slice_items}
 use Rattle.aseba_words.specs.declared.name.Held.{Held}
