@@ -55,26 +55,30 @@ fn file(alloc: Global, name: &[u8], bytes: &[u8]) -> Result<MemoryFile, Mem> {
     })
 }
 
-#[test]
-fn words_of_sim(rt: HostRuntime) -> Result<(), Fail> {
-    for (line, ticks) in [
-        ("sim|default|x|0", "0"),
-        ("sim|default|x|7", "7"),
-        ("sim|default|x|007", "7"),
-        ("sim|default|x|+7", "7"),
-        ("sim|--|default|x|5", "5"),
-        ("sim|default|x|--|5", "5"),
-        ("sim|default|x|5|--", "5"),
-    ] {
-        let ended = ran(rt.alloc(), line)?;
-        let written = format!(in rt.alloc();
-            "code 0003 ffff 0003 0000\nend {ticks} {}\n",
-            if ticks == "0" { 0 } else { 1 }
-        )?;
+/// Each line runs the empty source to its end, which is told with the line's number of ticks.
+fn all_run(alloc: Global, rt: &impl Abort, lines: &[&str], written: &[u8]) -> Result<(), Fail> {
+    for line in lines {
+        let ended = ran(alloc, line)?;
         assert_eq!(rt; ended.number, 0, "{line}");
-        assert_eq!(rt; ended.out.bytes(), written.as_bytes(), "{line}");
+        assert_eq!(rt; ended.out.bytes(), written, "{line}");
         assert_eq!(rt; ended.err.bytes(), b"".as_slice(), "{line}");
     }
+    Ok(())
+}
+
+#[test]
+fn words_of_sim(rt: HostRuntime) -> Result<(), Fail> {
+    let alloc = rt.alloc();
+    let lines: &[&str] = &["sim|default|x|0"];
+    all_run(alloc, &rt, lines, b"code 0003 ffff 0003 0000\nend 0 0\n")?;
+    let lines: &[&str] = &["sim|default|x|7", "sim|default|x|007", "sim|default|x|+7"];
+    all_run(alloc, &rt, lines, b"code 0003 ffff 0003 0000\nend 7 1\n")?;
+    let lines: &[&str] = &[
+        "sim|--|default|x|5",
+        "sim|default|x|--|5",
+        "sim|default|x|5|--",
+    ];
+    all_run(alloc, &rt, lines, b"code 0003 ffff 0003 0000\nend 5 1\n")?;
     Ok(())
 }
 
