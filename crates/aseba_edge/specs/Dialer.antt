@@ -1,5 +1,5 @@
 -- What a dialer was asked for, and what it gave.
-use Rattle.std.specs.Prelude.{◌≡◌, ℕ, Bool, true, false, List, [], ◌∷◌, ◌++◌, Option, Result, Ok, Err, IfSome}
+use Rattle.std.specs.Prelude.{◌≡◌, ℕ, Bool, true, false, List, [], ◌∷◌, ◌++◌, if◌then◌else◌, Option, None, Some, Result, Ok, Err, IfSome}
 use Rattle.aseba_edge.specs.declared.dialer.DialFault.{DialFault}
 use Rattle.aseba_edge.specs.declared.dialer.DialFault.TheVariants.{Refused, Mem}
 use Rattle.aseba_edge.specs.Link.{Input, IsUnread}
@@ -32,3 +32,8 @@ pub record IsFresh {Answer : Type 0} (input_faults : ℕ) (contents : Option (In
   pub no_fault_of_output : output_faults ≡ 0
   pub none_taken : IfSome taken (λ bytes. bytes ≡ [])
   pub same_mark : input_mark ≡ output_mark
+
+-- the link that a dial is due to give: the first that is left, none where the dial is to fail
+abbrev pub due : {Link : Type 0} → Bool → List Link → Option Link
+due fails [] = None
+due fails (link ∷ later) = if fails then None else Some link

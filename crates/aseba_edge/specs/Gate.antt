@@ -1,5 +1,5 @@
 -- What keeps an input in memory from its end.
-use Rattle.std.specs.Prelude.{◌≡◌, ℕ, ◌<◌, ◌≤◌, Option, None, Some, option_map, IfSome, MatchOption}
+use Rattle.std.specs.Prelude.{◌≡◌, ℕ, ◌+◌, ◌-◌, ◌^◌, ◌<◌, ◌≤◌, min, Option, None, Some, option_map, IfSome, MatchOption}
 use Rattle.aseba_edge.specs.declared.gate.Gate.{Gate}
 
 -- there is a gate, for so many bytes, at which the input waits for so many turns
@@ -18,6 +18,21 @@ taken_of gate = option_map (λ gate. gate.taken) gate
 abbrev pub turns_of : Option Gate → ℕ
 turns_of None = 0
 turns_of (Some gate) = gate.turns
+
+-- how often one looked behind so many turns: one time more than turns went by; the count stands still at its end
+abbrev pub looks_behind : ℕ → ℕ → ℕ
+looks_behind turns looks = min (looks + turns + 1) (2 ^ 64 - 1)
+
+-- one waited at a gate: some turns went by, maybe none, and one looked one time more
+pub record Waited (before after : Gate) : Type 0 where
+  pub until : after.until ≡ before.until
+  pub turns : after.turns ≤ before.turns
+  pub looks : after.watched.looks ≡ looks_behind (before.turns - after.turns) before.watched.looks
+
+-- one waited at the gate, if there is one
+abbrev pub HasWaited : Option Gate → Option Gate → Type 0
+HasWaited None after = after ≡ None
+HasWaited (Some before) after = MatchOption after ⊥ (λ after. Waited before after)
 
 -- if there is a gate, the number of bytes that was seen last reaches its own
 abbrev pub IsOpen : Option Gate → Type 0

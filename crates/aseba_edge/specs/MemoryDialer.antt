@@ -1,5 +1,5 @@
 -- What a dialer in memory was asked for and gave, and what it has left to give.
-use Rattle.std.specs.Prelude.{◌≡◌, ℕ, Bool, List, [], ◌∷◌, ◌++◌, drop, map, filter, reverse, is_some, IsSomeAnd, if◌then◌else◌, Option, None, Some, Result, Ok, Err}
+use Rattle.std.specs.Prelude.{◌≡◌, ℕ, List, [], ◌∷◌, ◌++◌, drop, map, filter, reverse, is_some, IsSomeAnd, Option, None, Some, Result, Ok, Err}
 use Rattle.aseba_edge.specs.declared.dialer.DialFault.{DialFault}
 use Rattle.aseba_edge.specs.declared.dialer.DialFault.TheVariants.{Refused, Mem}
 use Rattle.aseba_edge.specs.declared.memory_dialer.Dial.{Dial}
@@ -22,11 +22,6 @@ links_left dialer = reverse dialer.links.items
 -- the same of the links that are polled
 abbrev pub polled_left : MemoryDialer → List MemoryPolledLink
 polled_left dialer = reverse dialer.polled.items
-
--- the link that a dial is due to give: the first that is left, none where the dial is to fail
-abbrev pub due : {Link : Type 0} → Bool → List Link → Option Link
-due fails [] = None
-due fails (link ∷ later) = if fails then None else Some link
 
 -- A dial gives both ends of the link that is due, and is refused where none is. Want of memory may come at any time.
 abbrev pub GivesDue : Option MemoryLink → Result (MemoryIn × MemoryOut) DialFault → Type 0

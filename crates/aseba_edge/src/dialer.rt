@@ -1,4 +1,4 @@
-ghost use Rattle.std.specs.Prelude.{◌≡◌, ℕ, Option, option_map, IfOk, MatchResult};
+ghost use Rattle.std.specs.Prelude.{◌≡◌, ◌<◌, ◌^◌, ℕ, Option, option_map, IfOk, MatchResult};
 ghost use Rattle.aseba_edge.specs.Counts.{Counts};
 ghost use Rattle.aseba_edge.specs.Dialer.{Dialed, IsFresh, after_fault, after_link, is_refused};
 
@@ -67,4 +67,7 @@ pub trait Dialer {
             (λ fault. contents self.new ≡
             option_map (after_fault address.now fault) (contents self.old)) }
         ensures count { Counts (is_refused result) (faults self.old) (faults self.new) };
+
+    /// The count fits its word.
+    ghost bounds_faults: { (dialer : Self) → faults dialer < 2 ^ 64 };
 }

@@ -1,4 +1,4 @@
-ghost use Rattle.std.specs.Prelude.{◌≡◌, ℕ, List, Option, IfSome};
+ghost use Rattle.std.specs.Prelude.{◌≡◌, ◌<◌, ◌^◌, ℕ, List, Option, IfSome};
 ghost use Rattle.aseba_edge.specs.Counts.{Counts};
 ghost use Rattle.aseba_edge.specs.Files.{Answers, IsWithin, is_failed};
 
@@ -34,4 +34,7 @@ pub trait Files {
         ensures within { IsWithin limit result }
         ensures kept { contents self.new ≡ contents self.old }
         ensures count { Counts (is_failed result) (faults self.old) (faults self.new) };
+
+    /// The count fits its word.
+    ghost bounds_faults: { (files : Self) → faults files < 2 ^ 64 };
 }

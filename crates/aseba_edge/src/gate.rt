@@ -1,9 +1,9 @@
-ghost use Rattle.std.specs.Prelude.{◌≡◌, ◌≤◌, IfOk, false, nat_le};
+ghost use Rattle.std.specs.Prelude.{◌≡◌, IfOk, false, nat_le};
+ghost use Rattle.aseba_edge.specs.Plan.{next_call};
 
+use crate::watched::Watched;
 use aseba_words::Mem;
 use std::alloc::Global;
-use std::sync::Arc;
-use std::sync::atomic::{AtomicU64, Ordering};
 use std::thread;
 
 /// For how many turns an input waits before its gate counts as stuck.
@@ -11,10 +11,10 @@ const TURNS: u32 = 1_000_000;
 
 /// What an input in memory waits for at the end of its bytes: that its output has taken a number of
 /// bytes. Each of the two has a gate, maybe in the hands of different threads, and both share the
-/// word in which the output keeps its number.
+/// number that the output keeps.
 #[derive(Drop)]
 pub(crate) struct Gate {
-    word: Arc<AtomicU64>,
+    watched: Watched,
     /// How many bytes have to be taken.
     pub until: u64,
     /// How many bytes were taken, as this side told or saw it last.
@@ -24,15 +24,17 @@ pub(crate) struct Gate {
 }
 
 impl Gate {
+    ghost use Rattle.aseba_edge.specs.Gate.{Waited};
+
     /// A gate that opens when `until` bytes were taken.
     pub(crate) fn new(alloc: Global, until: u64) -> Result<Gate, Mem>
         ensures until { IfOk result (λ gate. gate.until ≡ until) }
         ensures turns { IfOk result (λ gate. gate.turns ≡ 1000000) }
         ensures taken { IfOk result (λ gate. gate.taken ≡ 0) }
+        ensures looks { IfOk result (λ gate. gate.watched.looks ≡ 0) }
     {
-        let word = Arc::new(alloc, AtomicU64::new(0))?;
         Ok(Gate {
-            word,
+            watched: Watched::new(alloc)?,
             until,
             taken: 0,
             turns: TURNS,
@@ -44,9 +46,10 @@ impl Gate {
         ensures until { IfOk result (λ gate. gate.until ≡ self.now.until) }
         ensures turns { IfOk result (λ gate. gate.turns ≡ self.now.turns) }
         ensures taken { IfOk result (λ gate. gate.taken ≡ self.now.taken) }
+        ensures looks { IfOk result (λ gate. gate.watched.looks ≡ 0) }
     {
         Ok(Gate {
-            word: Arc::try_clone(&self.word)?,
+            watched: self.watched.share()?,
             until: self.until,
             taken: self.taken,
             turns: self.turns,
@@ -57,25 +60,27 @@ impl Gate {
     pub(crate) fn tell(&mut self, taken: u64)
         ensures { self.new ≡ record self.old { taken = taken } }
     {
-        self.word.store(taken, Ordering::SeqCst);
+        self.watched.tell(taken);
         self.taken = taken;
     }
 
     /// Looks whether the gate is open.
     fn look(&mut self) -> bool
         ensures answer { result ≡ nat_le self.new.until self.new.taken }
-        ensures rest { self.new ≡ record self.old { taken = self.new.taken } }
+        ensures looked { self.new.watched.looks ≡ next_call self.old.watched.looks }
+        ensures until { self.new.until ≡ self.old.until }
+        ensures turns { self.new.turns ≡ self.old.turns }
     {
-        self.taken = self.word.load(Ordering::SeqCst);
+        self.taken = self.watched.look();
         self.until <= self.taken
     }
 
     /// Lets others run until the gate is open or no turn is left, and answers whether it is open.
+    /// It looks before each turn and behind the last one.
     pub(crate) fn wait(&mut self) -> bool
         ensures answer { result ≡ nat_le self.new.until self.new.taken }
+        ensures waited { Waited self.old self.new }
         ensures stuck { result ≡ false → self.new.turns ≡ 0 }
-        ensures turns { self.new.turns ≤ self.old.turns }
-        ensures until { self.new.until ≡ self.old.until }
     {
         while !self.look() {
             if self.turns == 0 {

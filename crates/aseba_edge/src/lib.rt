@@ -26,6 +26,7 @@ mod system_clock;
 mod system_files;
 mod tape;
 mod turn;
+mod watched;
 mod writer_sink;
 
 pub use clock::Clock;

@@ -1,4 +1,4 @@
-ghost use Rattle.std.specs.Prelude.{◌≡◌, ◌<◌, ◌≤◌, ℕ, List, [], length, take, Option, option_map, is_some, is_err, IfSome, IfOk, IfErr, OnOk, OnErr};
+ghost use Rattle.std.specs.Prelude.{◌≡◌, ◌<◌, ◌≤◌, ◌^◌, ℕ, List, [], length, take, Option, option_map, is_some, is_err, IfSome, IfOk, IfErr, OnOk, OnErr};
 ghost use Rattle.aseba_edge.specs.Counts.{Counts};
 ghost use Rattle.aseba_edge.specs.Link.{Input, after_read, next_bytes};
 ghost use Rattle.aseba_edge.specs.Sink.{Took, TookFewer};
@@ -36,6 +36,9 @@ pub trait LinkIn: Send + Drop {
 
     /// Where the contents are told, so is the mark.
     ghost tells_mark: { (link : Self) → is_some (mark link) ≡ is_some (contents link) };
+
+    /// The count fits its word.
+    ghost bounds_faults: { (link : Self) → faults link < 2 ^ 64 };
 }
 
 /// The end of a link that takes bytes.
@@ -66,4 +69,7 @@ pub trait LinkOut: Send + Drop {
 
     /// Where the bytes taken are told, so is the mark.
     ghost tells_mark: { (link : Self) → is_some (mark link) ≡ is_some (taken link) };
+
+    /// The count fits its word.
+    ghost bounds_faults: { (link : Self) → faults link < 2 ^ 64 };
 }

@@ -1,7 +1,6 @@
-ghost use Rattle.std.specs.Prelude.{◌≡◌, ◌<◌, ◌++◌, ◌&&◌, [], IfOk, MatchResult, OnOk, Some, drop, if◌then◌else◌, is_some, nat_lt, not, option_to_list, reverse, vec_capacity, vec_len};
+ghost use Rattle.std.specs.Prelude.{◌≡◌, ◌<◌, ◌^◌, ◌++◌, ◌&&◌, [], IfOk, MatchResult, OnOk, Some, drop, if◌then◌else◌, is_some, nat_lt, not, option_to_list, reverse, vec_capacity, vec_len};
 ghost use Rattle.aseba_edge.specs.Counts.{Counts};
-ghost use Rattle.aseba_edge.specs.Dialer.{IsFresh, after_fault, after_link, is_refused};
-ghost use Rattle.aseba_edge.specs.MemoryDialer.{GivesDue, GivesDuePolled, dials_after, due, left_behind, links_left, polled_left};
+ghost use Rattle.aseba_edge.specs.Dialer.{IsFresh, after_fault, after_link, due, is_refused};
 ghost use Rattle.aseba_edge.specs.Plan.{after_call, fails_next};
 
 use crate::dialer::{DialFault, Dialer};
@@ -31,6 +30,7 @@ pub struct MemoryDialer {
     polled: Vec<MemoryPolledLink>,
     dials: Vec<Dial>,
     plan: Plan,
+    ghost counted: { plan.faults < 2 ^ 64 },
 }
 
 /// Makes room for one dial more, and copies its address.
@@ -58,6 +58,8 @@ fn next_link<L>(links: &mut Vec<L>, fails: bool) -> Option<L>
 }
 
 impl MemoryDialer {
+    ghost use Rattle.aseba_edge.specs.MemoryDialer.{links_left, polled_left};
+
     /// Takes no memory.
     pub fn new(
         alloc: Global,
@@ -86,7 +88,7 @@ impl MemoryDialer {
 }
 
 impl Dialer for MemoryDialer {
-    ghost use Rattle.aseba_edge.specs.MemoryDialer.{dialed_by};
+    ghost use Rattle.aseba_edge.specs.MemoryDialer.{GivesDue, GivesDuePolled, dialed_by, dials_after, left_behind, links_left, polled_left};
 
     type In = MemoryIn;
 
@@ -97,6 +99,8 @@ impl Dialer for MemoryDialer {
     ghost contents = { λ dialer. Some (dialed_by dialer.dials.items) };
 
     ghost faults = { λ dialer. dialer.plan.faults };
+
+    ghost bounds_faults = { λ dialer. dialer.counted };
 
     fn dial(&mut self, alloc: Global, address: &str) -> Result<(MemoryIn, MemoryOut), DialFault>
         ensures fresh { IfOk result (λ link. IsFresh

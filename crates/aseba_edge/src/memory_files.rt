@@ -1,4 +1,4 @@
-ghost use Rattle.std.specs.Prelude.{◌≡◌, Some, false, option_copied};
+ghost use Rattle.std.specs.Prelude.{◌≡◌, ◌<◌, ◌^◌, Some, false, option_copied};
 ghost use Rattle.aseba_edge.specs.Counts.{Counts};
 ghost use Rattle.aseba_edge.specs.Files.{Answers, IsWithin, is_failed};
 ghost use Rattle.aseba_edge.specs.MemoryFiles.{first_named};
@@ -21,6 +21,7 @@ pub struct MemoryFile {
 pub struct MemoryFiles {
     files: List<MemoryFile>,
     plan: Plan,
+    ghost counted: { plan.faults < 2 ^ 64 },
 }
 
 impl MemoryFiles {
@@ -78,6 +79,8 @@ impl Files for MemoryFiles {
     ghost contents = { λ files. Some (held files.files) };
 
     ghost faults = { λ files. files.plan.faults };
+
+    ghost bounds_faults = { λ files. files.counted };
 
     fn read(&mut self, alloc: Global, name: &str, limit: u64) -> FileAnswer
         ensures answer { Answers (held self.old.files name.now) limit result }

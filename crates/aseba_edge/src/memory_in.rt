@@ -1,6 +1,6 @@
-ghost use Rattle.std.specs.Prelude.{◌≡◌, ◌<◌, ◌≤◌, IfOk, IsErr, IsOk, OnErr, OnOk, Some, None, [], false, true, is_err, length, refl, take};
+ghost use Rattle.std.specs.Prelude.{◌≡◌, ◌<◌, ◌≤◌, ◌^◌, IfOk, IsErr, IsOk, OnErr, OnOk, Some, None, [], false, true, is_err, length, refl, take};
 ghost use Rattle.aseba_edge.specs.Counts.{Counts};
-ghost use Rattle.aseba_edge.specs.Gate.{IsOpen, IsStuck, turns_of, until_of};
+ghost use Rattle.aseba_edge.specs.Gate.{HasWaited, IsOpen, IsStuck, turns_of, until_of};
 ghost use Rattle.aseba_edge.specs.Link.{after_read, is_empty, next_bytes};
 ghost use Rattle.aseba_edge.specs.Plan.{after_call, is_named, next_call};
 ghost use Rattle.aseba_edge.specs.Tape.{full};
@@ -22,6 +22,7 @@ pub struct MemoryIn {
     mark: u64,
     plan: Plan,
     gate: Option<Gate>,
+    ghost counted: { plan.faults < 2 ^ 64 },
 }
 
 impl MemoryIn {
@@ -54,6 +55,8 @@ impl MemoryIn {
         ensures before { is_empty self.old.tape.left ≡ false → result ≡ true }
         ensures open { result ≡ true → is_empty self.old.tape.left ≡ true → IsOpen self.new.gate }
         ensures stuck { result ≡ false → IsStuck self.new.gate }
+        ensures waited { is_empty self.old.tape.left ≡ true → HasWaited self.old.gate self.new.gate }
+        ensures passed { is_empty self.old.tape.left ≡ false → self.new.gate ≡ self.old.gate }
         ensures until { until_of self.new.gate ≡ until_of self.old.gate }
         ensures turns { turns_of self.new.gate ≤ turns_of self.old.gate }
         ensures rest { self.new ≡ record self.old { gate = self.new.gate } }
@@ -72,7 +75,7 @@ impl MemoryIn {
         ensures count { Counts true self.old.plan.faults self.new.plan.faults }
         ensures faults { self.new.plan ≡
             record self.old.plan { faults = next_call self.old.plan.faults } }
-        ensures rest { self.new ≡ record self.old { plan = self.new.plan } }
+        ensures rest { self.new ≡ record self.old { plan = self.new.plan; counted = self.new.counted } }
     {
         self.plan.fail();
         LinkFault
@@ -86,6 +89,13 @@ impl MemoryIn {
     {
         self.mark
     }
+
+    /// How many reads have failed.
+    pub fn faults(&self) -> u64
+        ensures { result ≡ self.now.plan.faults }
+    {
+        self.plan.faults
+    }
 }
 
 impl LinkIn for MemoryIn {
@@ -96,6 +106,8 @@ impl LinkIn for MemoryIn {
     ghost faults = { λ input. input.plan.faults };
 
     ghost tells_mark = { λ _. refl };
+
+    ghost bounds_faults = { λ input. input.counted };
 
     fn read(&mut self, buf: &mut [u8]) -> Result<usize, LinkFault>
         ensures fits { IfOk result (λ count. count ≤ length buf.old) }
@@ -117,12 +129,19 @@ impl LinkIn for MemoryIn {
             count ≡ 0 → 0 < length buf.old → IsOpen self.new.gate) }
         ensures stuck { is_named self.old.plan.failing (next_call self.old.plan.calls) ≡ false →
             IsErr result → IsStuck self.new.gate }
+        ensures waited { is_named self.old.plan.failing (next_call self.old.plan.calls) ≡ false →
+            0 < length buf.old → is_empty self.old.tape.left ≡ true →
+            HasWaited self.old.gate self.new.gate }
+        ensures passed { is_named self.old.plan.failing (next_call self.old.plan.calls) ≡ true →
+            self.new.gate ≡ self.old.gate }
+        ensures before_end { is_empty self.old.tape.left ≡ false →
+            self.new.gate ≡ self.old.gate }
         ensures until { until_of self.new.gate ≡ until_of self.old.gate }
         ensures turns { turns_of self.new.gate ≤ turns_of self.old.gate }
         ensures no_room { is_named self.old.plan.failing (next_call self.old.plan.calls) ≡ false →
             length buf.old ≡ 0 → IsOk result }
         ensures untouched { length buf.old ≡ 0 →
-            self.new ≡ record self.old { plan = self.new.plan } }
+            self.new ≡ record self.old { plan = self.new.plan; counted = self.new.counted } }
         ensures plan { self.new.plan ≡ after_call (is_err result) self.old.plan }
     {
         if self.plan.begin() {

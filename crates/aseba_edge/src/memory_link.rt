@@ -45,6 +45,7 @@ pub struct MemoryLink {
     ghost no_read_failed: { input.plan.faults ≡ 0 },
     ghost none_taken: { output.sink.bytes.items ≡ [] },
     ghost no_put_failed: { output.sink.plan.faults ≡ 0 },
+    ghost not_hung_up: { output.hang_ups ≡ 0 },
     ghost same_mark: { input.mark ≡ output.mark },
 }
 
@@ -120,6 +121,7 @@ pub struct MemoryPolledLink {
     ghost no_poll_failed: { input.plan.faults ≡ 0 },
     ghost none_taken: { output.sink.bytes.items ≡ [] },
     ghost no_put_failed: { output.sink.plan.faults ≡ 0 },
+    ghost not_hung_up: { output.hang_ups ≡ 0 },
     ghost same_mark: { input.mark ≡ output.mark },
 }
 

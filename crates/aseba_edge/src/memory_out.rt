@@ -2,7 +2,7 @@ ghost use Rattle.std.specs.Prelude.{◌≡◌, IfErr, IfOk, OnOk, Some, [], is_e
 ghost use Rattle.aseba_edge.specs.Counts.{Counts};
 ghost use Rattle.aseba_edge.specs.Gate.{taken_of, turns_of, until_of};
 ghost use Rattle.aseba_edge.specs.MemorySink.{put_answer};
-ghost use Rattle.aseba_edge.specs.Plan.{after_call};
+ghost use Rattle.aseba_edge.specs.Plan.{after_call, next_call};
 ghost use Rattle.aseba_edge.specs.Sink.{Took, TookFewer};
 
 use crate::gate::Gate;
@@ -19,6 +19,7 @@ pub struct MemoryOut {
     sink: MemorySink,
     mark: u64,
     gate: Option<Gate>,
+    hang_ups: u64,
 }
 
 impl MemoryOut {
@@ -35,11 +36,13 @@ impl MemoryOut {
         ensures plan { IfOk result (λ output.
             output.sink.plan ≡ record { failing = failing; calls = 0; faults = 0 }) }
         ensures gate { IfOk result (λ output. output.gate ≡ gate) }
+        ensures hang_ups { IfOk result (λ output. output.hang_ups ≡ 0) }
     {
         Ok(MemoryOut {
             sink: MemorySink::new(alloc, room, failing)?,
             mark,
             gate,
+            hang_ups: 0,
         })
     }
 
@@ -48,6 +51,27 @@ impl MemoryOut {
         ensures { result.now ≡ self.now.sink.bytes.items }
     {
         self.sink.bytes()
+    }
+
+    /// The number that its script gave the link, by which its user tells it from others.
+    pub fn mark(&self) -> u64
+        ensures { result ≡ self.now.mark }
+    {
+        self.mark
+    }
+
+    /// How many puts have failed.
+    pub fn faults(&self) -> u64
+        ensures { result ≡ self.now.sink.plan.faults }
+    {
+        self.sink.faults()
+    }
+
+    /// How often it was asked to hang up. The count stands still at its end.
+    pub fn hang_ups(&self) -> u64
+        ensures { result ≡ self.now.hang_ups }
+    {
+        self.hang_ups
     }
 }
 
@@ -59,6 +83,8 @@ impl LinkOut for MemoryOut {
     ghost faults = { λ output. output.sink.plan.faults };
 
     ghost tells_mark = { λ _. refl };
+
+    ghost bounds_faults = { λ output. output.sink.counted };
 
     fn put(&mut self, piece: &[u8]) -> Result<(), PutFault>
         ensures whole { OnOk result
@@ -73,6 +99,7 @@ impl LinkOut for MemoryOut {
         ensures until { until_of self.new.gate ≡ until_of self.old.gate }
         ensures turns { turns_of self.new.gate ≡ turns_of self.old.gate }
         ensures room { self.new.sink.room ≡ self.old.sink.room }
+        ensures hang_ups { self.new.hang_ups ≡ self.old.hang_ups }
         ensures plan { self.new.sink.plan ≡ after_call (is_err result) self.old.sink.plan }
     {
         let answer = self.sink.put(piece);
@@ -83,6 +110,8 @@ impl LinkOut for MemoryOut {
     }
 
     fn hang_up(&mut self)
-        ensures { self.new ≡ self.old }
-    {}
+        ensures { self.new ≡ record self.old { hang_ups = next_call self.old.hang_ups } }
+    {
+        self.hang_ups = self.hang_ups.saturating_add(1);
+    }
 }

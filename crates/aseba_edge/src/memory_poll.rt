@@ -1,4 +1,4 @@
-ghost use Rattle.std.specs.Prelude.{◌≡◌, ◌<◌, IfOk, Some, [], false, true, length, refl};
+ghost use Rattle.std.specs.Prelude.{◌≡◌, ◌<◌, ◌^◌, IfOk, Some, [], false, true, length, refl};
 ghost use Rattle.aseba_edge.specs.Counts.{Counts};
 ghost use Rattle.aseba_edge.specs.Link.{IsInRoom, IsPolled, after_poll, is_failed, next_given};
 ghost use Rattle.aseba_edge.specs.Plan.{after_call, is_named, next_call};
@@ -17,6 +17,7 @@ pub struct MemoryPoll {
     tape: PollTape,
     mark: u64,
     plan: Plan,
+    ghost counted: { plan.faults < 2 ^ 64 },
 }
 
 impl MemoryPoll {
@@ -48,6 +49,13 @@ impl MemoryPoll {
     {
         self.mark
     }
+
+    /// How many polls have failed.
+    pub fn faults(&self) -> u64
+        ensures { result ≡ self.now.plan.faults }
+    {
+        self.plan.faults
+    }
 }
 
 impl LinkPoll for MemoryPoll {
@@ -58,6 +66,8 @@ impl LinkPoll for MemoryPoll {
     ghost faults = { λ input. input.plan.faults };
 
     ghost tells_mark = { λ _. refl };
+
+    ghost bounds_faults = { λ input. input.counted };
 
     fn poll(&mut self, buf: &mut [u8]) -> Polled
         requires { 0 < length buf.old }

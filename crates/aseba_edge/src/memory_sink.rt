@@ -1,4 +1,4 @@
-ghost use Rattle.std.specs.Prelude.{◌≡◌, ◌≤◌, [], Some, OnOk, IfOk, IfErr, is_err, vec_len, vec_capacity};
+ghost use Rattle.std.specs.Prelude.{◌≡◌, ◌<◌, ◌≤◌, ◌^◌, [], Some, OnOk, IfOk, IfErr, is_err, vec_len, vec_capacity};
 ghost use Rattle.aseba_edge.specs.Counts.{Counts};
 ghost use Rattle.aseba_edge.specs.Plan.{after_call};
 ghost use Rattle.aseba_edge.specs.Sink.{Took, TookFewer};
@@ -17,6 +17,7 @@ pub struct MemorySink {
     plan: Plan,
     ghost fits: { vec_len bytes ≤ room },
     ghost reserved: { room ≤ vec_capacity bytes },
+    pub ghost counted: { plan.faults < 2 ^ 64 },
 }
 
 impl MemorySink {
@@ -55,6 +56,8 @@ impl Sink for MemorySink {
     ghost taken = { λ sink. Some sink.bytes.items };
 
     ghost faults = { λ sink. sink.plan.faults };
+
+    ghost bounds_faults = { λ sink. sink.counted };
 
     fn put(&mut self, piece: &[u8]) -> Result<(), PutFault>
         ensures whole { OnOk result

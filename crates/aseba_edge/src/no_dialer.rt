@@ -1,4 +1,4 @@
-ghost use Rattle.std.specs.Prelude.{◌≡◌, ◌==◌, Err, IfErr, IsErr, None, is_err, is_ok, length, refl, true};
+ghost use Rattle.std.specs.Prelude.{◌≡◌, ◌<◌, ◌^◌, ◌==◌, Err, IfErr, IsErr, None, is_err, is_ok, length, refl, true};
 ghost use Rattle.aseba_edge.specs.Counts.{Counts};
 ghost use Rattle.aseba_edge.specs.Plan.{faults_after, next_call};
 
@@ -12,18 +12,20 @@ use std::alloc::Global;
 #[derive(Debug, Drop)]
 pub struct NoDialer {
     faults: u64,
+    ghost counted: { faults < 2 ^ 64 },
 }
 
 /// A link to nowhere, which `NoDialer` would give: each call of it fails, but a put of nothing.
 #[derive(Debug, Drop)]
 pub struct NoLink {
     faults: u64,
+    ghost counted: { faults < 2 ^ 64 },
 }
 
 impl NoDialer {
     /// Takes no memory.
     pub fn new() -> NoDialer
-        ensures { result ≡ record { faults = 0 } }
+        ensures { result.faults ≡ 0 }
     {
         NoDialer { faults: 0 }
     }
@@ -59,6 +61,8 @@ impl Dialer for NoDialer {
 
     ghost faults = { λ dialer. dialer.faults };
 
+    ghost bounds_faults = { λ dialer. dialer.counted };
+
     fn dial(&mut self, _alloc: Global, _address: &str) -> Result<(NoLink, NoLink), DialFault>
         ensures refused { result ≡ Err DialFault.Refused }
         ensures count { Counts true self.old.faults self.new.faults }
@@ -85,6 +89,8 @@ impl LinkIn for NoLink {
 
     ghost tells_mark = { λ _. refl };
 
+    ghost bounds_faults = { λ link. link.counted };
+
     fn read(&mut self, _buf: &mut [u8]) -> Result<usize, LinkFault>
         ensures fails { IsErr result }
         ensures count { Counts true self.old.faults self.new.faults }
@@ -103,6 +109,8 @@ impl LinkOut for NoLink {
     ghost faults = { λ link. link.faults };
 
     ghost tells_mark = { λ _. refl };
+
+    ghost bounds_faults = { λ link. link.counted };
 
     fn put(&mut self, piece: &[u8]) -> Result<(), PutFault>
         ensures fails { is_ok result ≡ (length piece.now == 0) }
@@ -130,6 +138,8 @@ impl LinkPoll for NoLink {
     ghost faults = { λ link. link.faults };
 
     ghost tells_mark = { λ _. refl };
+
+    ghost bounds_faults = { λ link. link.counted };
 
     fn poll(&mut self, _buf: &mut [u8]) -> Polled
         ensures fails { result ≡ Polled.Failed }

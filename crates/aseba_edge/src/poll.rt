@@ -1,4 +1,4 @@
-ghost use Rattle.std.specs.Prelude.{◌≡◌, ◌<◌, ℕ, length, Option, option_map, is_some, IfSome};
+ghost use Rattle.std.specs.Prelude.{◌≡◌, ◌<◌, ◌^◌, ℕ, length, Option, option_map, is_some, IfSome};
 ghost use Rattle.aseba_edge.specs.Counts.{Counts};
 
 use aseba_words::List;
@@ -51,4 +51,7 @@ pub trait LinkPoll: Drop {
 
     /// Where the contents are told, so is the mark.
     ghost tells_mark: { (link : Self) → is_some (mark link) ≡ is_some (contents link) };
+
+    /// The count fits its word.
+    ghost bounds_faults: { (link : Self) → faults link < 2 ^ 64 };
 }

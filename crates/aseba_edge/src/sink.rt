@@ -1,4 +1,4 @@
-ghost use Rattle.std.specs.Prelude.{ℕ, List, Option, OnOk, IfErr, is_err};
+ghost use Rattle.std.specs.Prelude.{◌<◌, ◌^◌, ℕ, List, Option, OnOk, IfErr, is_err};
 ghost use Rattle.aseba_edge.specs.Counts.{Counts};
 ghost use Rattle.aseba_edge.specs.Sink.{Took, TookFewer};
 
@@ -24,4 +24,7 @@ pub trait Sink {
         ensures part { IfErr result (λ fault.
             TookFewer fault.taken (taken self.old) piece.now (taken self.new)) }
         ensures count { Counts (is_err result) (faults self.old) (faults self.new) };
+
+    /// The count fits its word.
+    ghost bounds_faults: { (sink : Self) → faults sink < 2 ^ 64 };
 }

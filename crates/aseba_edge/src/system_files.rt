@@ -1,9 +1,9 @@
-ghost use Rattle.std.specs.Prelude.{◌≡◌, ◌≢◌, IfErr, IfOk, IfSome, None, Some, false};
+ghost use Rattle.std.specs.Prelude.{◌≡◌, ◌≢◌, ◌<◌, ◌≤◌, ◌+◌, ◌^◌, ◌++◌, IfErr, IfOk, IfSome, None, Some, false, length, nat_le, true, vec_len};
 ghost use Rattle.std.specs.IoError.{error_kind};
 ghost use Rattle.aseba_edge.specs.Files.{Answers, IsWithin, is_absent, is_failed};
 
 use crate::files::{FileAnswer, Files};
-use aseba_words::List;
+use aseba_words::{List, Mem};
 use std::alloc::Global;
 use std::io::{ErrorKind, Read};
 use std::{fs, io};
@@ -13,12 +13,14 @@ use std::{fs, io};
 pub struct SystemFiles<R> {
     rt: R,
     faults: u64,
+    ghost counted: { faults < 2 ^ 64 },
 }
 
 impl<R> SystemFiles<R> {
     /// Takes no memory.
     pub fn new(rt: R) -> SystemFiles<R>
-        ensures { result ≡ record { rt = rt; faults = 0 } }
+        ensures rt { result.rt ≡ rt }
+        ensures faults { result.faults ≡ 0 }
     {
         SystemFiles { rt, faults: 0 }
     }
@@ -28,6 +30,8 @@ impl<R: fs::Files> Files for SystemFiles<R> {
     ghost contents = { λ _. None };
 
     ghost faults = { λ files. files.faults };
+
+    ghost bounds_faults = { λ files. files.counted };
 
     fn read(&mut self, alloc: Global, name: &str, limit: u64) -> FileAnswer {
         match read_whole(alloc, &self.rt, name, limit) {
@@ -54,6 +58,21 @@ fn read_whole<R: fs::Files>(alloc: Global, rt: &R, name: &str, limit: u64) -> io
     read_to_limit(alloc, &mut file, limit)
 }
 
+/// Adds a piece to what was read, unless that would be longer than the limit, and answers whether it
+/// is within it.
+fn add(bytes: &mut Vec<u8>, piece: &[u8], limit: u64) -> Result<bool, Mem>
+    requires { vec_len bytes.old ≤ limit }
+    ensures within { IfOk result (λ fits. fits ≡ nat_le (vec_len bytes.old + length piece.now) limit) }
+    ensures added { IfOk result (λ fits. fits ≡ true →
+        bytes.new.items ≡ bytes.old.items ++ piece.now) }
+{
+    if piece.len() as u64 > limit - bytes.len() as u64 {
+        return Ok(false);
+    }
+    bytes.extend_from_slice(piece)?;
+    Ok(true)
+}
+
 /// Reads what an input has left, unless that is longer than the limit. A read that was interrupted
 /// is tried again.
 pub fn read_to_limit<I: Read>(alloc: Global, input: &mut I, limit: u64) -> io::Result<FileAnswer>
@@ -74,11 +93,10 @@ pub fn read_to_limit<I: Read>(alloc: Global, input: &mut I, limit: u64) -> io::R
         if count == 0 {
             return Ok(FileAnswer::Bytes(List::from_vec(bytes)));
         }
-        if count as u64 > limit - bytes.len() as u64 {
-            return Ok(FileAnswer::TooBig);
-        }
-        if bytes.extend_from_slice(&piece[..count]).is_err() {
-            return Ok(FileAnswer::Mem);
+        match add(&mut bytes, &piece[..count], limit) {
+            Ok(true) => {}
+            Ok(false) => return Ok(FileAnswer::TooBig),
+            Err(Mem) => return Ok(FileAnswer::Mem),
         }
     }
     Err(io::Error::from(ErrorKind::TimedOut))

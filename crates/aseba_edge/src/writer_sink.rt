@@ -1,4 +1,4 @@
-ghost use Rattle.std.specs.Prelude.{◌≡◌, ◌≤◌, None, IfErr, IfNone, IfSome, is_err, length, take};
+ghost use Rattle.std.specs.Prelude.{◌≡◌, ◌<◌, ◌≤◌, ◌^◌, None, IfErr, IfNone, IfSome, is_err, length, take};
 ghost use Rattle.std.specs.Io.KnownBytes.{Appends, Keeps};
 ghost use Rattle.aseba_edge.specs.Counts.{Counts};
 ghost use Rattle.aseba_edge.specs.Sink.{TookFewer, part_taken};
@@ -12,12 +12,14 @@ use std::io::{ErrorKind, Write};
 pub struct WriterSink<W> {
     writer: W,
     faults: u64,
+    ghost counted: { faults < 2 ^ 64 },
 }
 
 impl<W> WriterSink<W> {
     /// Takes no memory.
     pub fn new(writer: W) -> WriterSink<W>
-        ensures { result ≡ record { writer = writer; faults = 0 } }
+        ensures writer { result.writer ≡ writer }
+        ensures faults { result.faults ≡ 0 }
     {
         WriterSink { writer, faults: 0 }
     }
@@ -64,6 +66,8 @@ impl<W: Write> Sink for WriterSink<W> {
     ghost taken = { λ _. None };
 
     ghost faults = { λ sink. sink.faults };
+
+    ghost bounds_faults = { λ sink. sink.counted };
 
     fn put(&mut self, piece: &[u8]) -> Result<(), PutFault>
         ensures part { IfErr result (λ fault. TookFewer fault.taken None piece.now None) }

@@ -129,3 +129,20 @@ fn too_long(rt: HostRuntime) {
         }
     );
 }
+
+/// As many bytes are asked for as are missing to the length, and then to the frame's end.
+#[test]
+fn awaited(rt: HostRuntime) {
+    let mut reader = FrameReader::new();
+    assert_eq!(rt; reader.awaited(), 2);
+    assert_eq!(rt; reader.feed_piece(&ONE[..1]).fed, Fed::More);
+    assert_eq!(rt; reader.awaited(), 1);
+    assert_eq!(rt; reader.feed_piece(&ONE[1..2]).fed, Fed::More);
+    assert_eq!(rt; reader.awaited(), 8);
+    assert_eq!(rt; reader.feed_piece(&ONE[2..9]).fed, Fed::More);
+    assert_eq!(rt; (reader.awaited(), reader.is_whole()), (1, false));
+    assert_eq!(rt; reader.feed_piece(&ONE[9..]).fed, Fed::Whole);
+    assert_eq!(rt; (reader.awaited(), reader.is_whole()), (2, true));
+    assert_eq!(rt; reader.feed_piece(&[1, 4]).fed, Fed::TooLong { len: 1025 });
+    assert_eq!(rt; (reader.awaited(), reader.is_whole()), (0, false));
+}

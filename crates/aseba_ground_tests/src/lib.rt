@@ -9,6 +9,8 @@ mod natives;
 #[cfg(test)]
 mod outside;
 #[cfg(test)]
+mod sharing;
+#[cfg(test)]
 mod text_reading;
 #[cfg(test)]
 mod text_writing;

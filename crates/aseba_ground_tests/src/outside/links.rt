@@ -2,7 +2,7 @@
 use crate::outside::read_all;
 use aseba_edge::{
     DialFault, Dialer, LinkIn, LinkOut, LinkPoll, LinkScript, MemoryDialer, MemoryLink,
-    MemoryPolledLink, NoDialer, PollAnswer, Polled,
+    MemoryPolledLink, NoDialer, PollAnswer, Polled, PutFault,
 };
 use aseba_words::{List, Mem};
 use std::alloc::Global;
@@ -74,6 +74,7 @@ fn a_read_that_is_to_fail_gives_nothing(rt: HostRuntime) -> Result<(), Fail> {
         output: _,
     } = MemoryLink::new(alloc, script, pieces.as_slice())?;
     assert!(rt; read_all(alloc, &mut input).is_err());
+    assert_eq!(rt; input.faults(), 1);
     let bytes = read_all(alloc, &mut input).ok().ok_or("read")?;
     assert_eq!(rt; bytes.as_slice(), b"ab".as_slice());
     Ok(())
@@ -85,9 +86,27 @@ fn a_gate_opens_when_the_output_took_enough(rt: HostRuntime) -> Result<(), Fail>
         mut input,
         mut output,
     } = link_of(rt.alloc(), 1, Some(2))?;
-    assert!(rt; read_all(rt.alloc(), &mut input).is_err());
     assert_eq!(rt; output.put(b"xy"), Ok(()));
     assert!(rt; read_all(rt.alloc(), &mut input).is_ok());
+    assert_eq!(rt; input.faults(), 0);
+    Ok(())
+}
+
+#[test]
+fn an_output_in_memory_counts_its_faults_and_hang_ups(rt: HostRuntime) -> Result<(), Fail> {
+    let MemoryLink {
+        input: _,
+        mut output,
+    } = link_of(rt.alloc(), 6, None)?;
+    assert_eq!(rt; output.mark(), 6);
+    assert_eq!(rt; output.put(b"0123456789"), Ok(()));
+    assert_eq!(rt; output.faults(), 0);
+    assert_eq!(rt; output.put(b"x"), Err(PutFault { taken: 0 }));
+    assert_eq!(rt; output.faults(), 1);
+    assert_eq!(rt; output.hang_ups(), 0);
+    output.hang_up();
+    output.hang_up();
+    assert_eq!(rt; output.hang_ups(), 2);
     Ok(())
 }
 
@@ -104,7 +123,9 @@ fn a_polled_input_in_memory_gives_its_answers(rt: HostRuntime) -> Result<(), Fai
     assert_eq!(rt; piece, *b"cb");
     assert_eq!(rt; input.poll(&mut piece), Polled::NotYet);
     assert_eq!(rt; input.poll(&mut piece), Polled::NotYet);
+    assert_eq!(rt; input.faults(), 0);
     assert_eq!(rt; input.poll(&mut piece), Polled::Failed);
+    assert_eq!(rt; input.faults(), 1);
     assert_eq!(rt; input.poll(&mut piece), Polled::Ended);
     Ok(())
 }
