@@ -4,7 +4,7 @@ use Rattle.std.proofs.Math.Seq.{drop-length, take-length}
 use Rattle.std.proofs.lemmas.Bool.{cases_lt}
 use Rattle.std.proofs.lemmas.Bool.Decides.{nat_tests}
 use Rattle.aseba_message.specs.Frames.{length_word, is_bad, is_frame}
-use Rattle.aseba_message.specs.Reader.{answer, begun, fed, is_more, also_taken, taken, wanted}
+use Rattle.aseba_message.specs.Reader.{answer, begun, fed, is_more, also_taken, taken, wanted, awaited}
 use Rattle.aseba_message.specs.declared.reader.Fed.{Fed}
 use Rattle.aseba_message.specs.declared.reader.Fed.TheVariants.{More, Whole, TooLong}
 use Rattle.aseba_message.proofs.Cuts.{length_word-append}
@@ -29,10 +29,10 @@ fed-more held byte h =
     let t = more-tests held h in
     ap (λ b. if b then held else begun held ++ byte ∷ []) t.0 ∙ ap (λ w. (if w then [] else held) ++ byte ∷ []) t.1
 
-wanted-short : (held : List ℕ) → length held < 2 → wanted held ≡ 2
+pub wanted-short : (held : List ℕ) → length held < 2 → wanted held ≡ 2
 wanted-short held h = grind (arith, nat_tests)
 
-wanted-long : (held : List ℕ) → 2 ≤ length held → wanted held ≡ 6 + length_word held
+pub wanted-long : (held : List ℕ) → 2 ≤ length held → wanted held ≡ 6 + length_word held
 wanted-long held h = grind (arith, nat_tests)
 
 quiet-short : (held : List ℕ) → length held < 2 → (is_bad held ≡ false) × (is_frame held ≡ false)
@@ -103,6 +103,38 @@ taken-run (suc (suc n)) held (byte ∷ piece) h le room =
     ∙ (ap (also_taken 1) on
     ∙ (ap (λ t. also_taken 1 (onward (answer t) (suc n) (taken t (drop (suc n) piece)) t)) whole
     ∙ onward-next (answer (held ++ byte ∷ take (suc n) piece)) (suc n) (taken (held ++ byte ∷ take (suc n) piece) (drop (suc n) piece)) (held ++ byte ∷ take (suc n) piece))))
+
+-- a piece of no more than what is waited for is taken whole
+onward-count : (f : Fed) (n : ℕ) (x : List ℕ) → (onward f n (taken x []) x).0 ≡ n
+onward-count More n x = omega arith
+onward-count Whole n x = refl
+onward-count (TooLong len) n x = refl
+
+all-from_more : (held piece : List ℕ) → answer held ≡ More → length held + length piece ≤ wanted held → (taken held piece).0 ≡ length piece
+all-from_more held piece h room =
+    let n = length piece in
+    let next = held ++ take n piece in
+    ap (λ r. r.0) (taken-run n held piece h (omega arith) room)
+    ∙ (ap (λ rest. (onward (answer next) n (taken next rest) next).0) (drop-length piece) ∙ onward-count (answer next) n next)
+
+-- behind a whole frame the next one begins
+all-from_whole : (held piece : List ℕ) → is_bad held ≡ false → is_frame held ≡ true → length piece ≤ 2 → (taken held piece).0 ≡ length piece
+all-from_whole held [] good e room = refl
+all-from_whole held (byte ∷ piece) good e room =
+    let next : fed held byte ≡ byte ∷ [] =
+    ap (λ b. if b then held else begun held ++ byte ∷ []) good ∙ ap (λ w. (if w then [] else held) ++ byte ∷ []) e in
+    ap (λ t. (onward (answer t) 1 (taken t piece) t).0) next ∙ all-from_more [] (byte ∷ piece) refl (omega (arith, room))
+
+all-tested : (held piece : List ℕ) (bad : Bool) → is_bad held ≡ bad → (whole : Bool) → is_frame held ≡ whole
+    → length piece ≤ (if bad then 0 else wanted (if whole then [] else held) - (if whole then 0 else length held)) → (taken held piece).0 ≡ length piece
+all-tested held [] true e whole f room = refl
+all-tested held (byte ∷ piece) true e whole f room = absurd (omega arith)
+all-tested held piece false e true f room = all-from_whole held piece e f (omega arith)
+all-tested held [] false e false f room = refl
+all-tested held (byte ∷ piece) false e false f room = all-from_more held (byte ∷ piece) (more-from_tests held e f) (omega arith)
+
+pub all-taken : (held piece : List ℕ) → length piece ≤ awaited held → (taken held piece).0 ≡ length piece
+all-taken held piece room = all-tested held piece (is_bad held) refl (is_frame held) refl room
 
 full : (held piece : List ℕ) (n : ℕ) → n ≤ length piece → length held + n ≡ wanted held → answer (held ++ take n piece) ≡ More → length (held ++ take n piece) ≡ 2
 full held piece n fits e more = by_len (cases_lt (length held) 2)

@@ -12,19 +12,19 @@ use Rattle.aseba_message.specs.declared.reader.Fed.{Fed}
 use Rattle.aseba_message.specs.declared.reader.Fed.TheVariants.{More, Whole, TooLong}
 use Rattle.aseba_message.proofs.Cuts.{cut, cut-append, cut-next, cut-none, frameless, frame-fits, frame-from_fits, length_word-append}
 
-bad-tells : (bytes : List ℕ) → is_bad bytes ≡ true → (2 ≤ length bytes) × (1024 < length_word bytes)
+pub bad-tells : (bytes : List ℕ) → is_bad bytes ≡ true → (2 ≤ length bytes) × (1024 < length_word bytes)
 bad-tells bytes h = (grind (arith, nat_tests), grind (arith, nat_tests))
 
 pub not_bad-tells : (bytes : List ℕ) → is_bad bytes ≡ false → 2 ≤ length bytes → length_word bytes ≤ 1024
 not_bad-tells bytes h two = grind (arith, nat_tests)
 
-frame-tells : (bytes : List ℕ) → is_frame bytes ≡ true → length bytes ≡ 6 + length_word bytes
+pub frame-tells : (bytes : List ℕ) → is_frame bytes ≡ true → length bytes ≡ 6 + length_word bytes
 frame-tells bytes h = grind (arith, nat_tests)
 
 pub not_frame-tells : (bytes : List ℕ) → is_frame bytes ≡ false → 2 ≤ length bytes → length bytes ≡ 6 + length_word bytes → ⊥
 not_frame-tells bytes h two e = grind (arith, nat_tests)
 
-bad-front : (bytes more : List ℕ) → is_bad bytes ≡ true → cut (bytes ++ more) ≡ ([], bytes ++ more)
+pub bad-front : (bytes more : List ℕ) → is_bad bytes ≡ true → cut (bytes ++ more) ≡ ([], bytes ++ more)
 bad-front bytes more h =
     let f = bad-tells bytes h in
     let word = length_word-append bytes more f.0 in
@@ -33,11 +33,11 @@ bad-front bytes more h =
 incomplete : (held : List ℕ) → Held held → is_frame held ≡ false → (2 ≤ length held) × (length_word held ≤ 1024) × (6 + length_word held ≤ length held) → ⊥
 incomplete held h e f = not_frame-tells held e f.0 (let k = h.known (omega arith) in omega arith)
 
-below : (held : List ℕ) → Held held → is_frame held ≡ false → (2 < length held) ⊎ (length held ≤ 2) → 2 ≤ length held → length held < 6 + length_word held
+pub below : (held : List ℕ) → Held held → is_frame held ≡ false → (2 < length held) ⊎ (length held ≤ 2) → 2 ≤ length held → length held < 6 + length_word held
 below held h e (inl l) two = let k = h.known l in let n = not_frame-tells held e two in omega arith
 below held h e (inr l) two = omega arith
 
-room : (held : List ℕ) → Held held → is_bad held ≡ false → is_frame held ≡ false → (length held < 2) ⊎ (2 ≤ length held) → length held < 1030
+pub room : (held : List ℕ) → Held held → is_bad held ≡ false → is_frame held ≡ false → (length held < 2) ⊎ (2 ≤ length held) → length held < 1030
 room held h good e (inr two) = let b = below held h e (cases_lt 2 (length held)) two in let w = not_bad-tells held good two in omega arith
 room held h good e (inl l) = omega arith
 
@@ -73,7 +73,7 @@ good-cut held h good =
     cut-tested held h good (is_frame held) refl ∙ ap (λ b. tested held b (is_frame held)) (sym good)
 
 -- a frame that has begun
-held-fed : (held : List ℕ) (byte : ℕ) → Held held → Held (fed held byte)
+pub held-fed : (held : List ℕ) (byte : ℕ) → Held held → Held (fed held byte)
 held-fed held byte h = by_test (is_bad held) refl (is_frame held) refl
   where
     by_test : (bad : Bool) → is_bad held ≡ bad → (whole : Bool) → is_frame held ≡ whole → Held (if bad then held else (if whole then [] else held) ++ byte ∷ [])
@@ -160,7 +160,7 @@ taking bytes held [] h stands = taking-none bytes held stands
 taking bytes held (byte ∷ piece) h stands =
     on bytes held byte piece h stands (λ more next k s. taking more next piece k s) (answer (fed held byte)) refl
 
-bad-append : (held more : List ℕ) → is_bad held ≡ true → is_bad (held ++ more) ≡ true
+pub bad-append : (held more : List ℕ) → is_bad held ≡ true → is_bad (held ++ more) ≡ true
 bad-append held more h =
     let f = bad-tells held h in
     let word = length_word-append held more f.0 in

@@ -35,6 +35,15 @@ pub record IsCut (bytes : List ℕ) (frames : List Message) (rest : List ℕ) : 
   pub each : AllByRecursion IsMessage frames
   pub last : has_frame rest ≡ false
 
+-- no length in the stream is one that no frame may have
+abbrev pub IsGoodStream : List ℕ → Type 0
+IsGoodStream bytes = is_bad (rest_of bytes) ≡ false
+
+-- behind its frames, at this place, stands a length that no frame may have
+pub record IsBadAt (bytes : List ℕ) (place : ℕ) : Type 0 where
+  pub bad : is_bad (rest_of bytes) ≡ true
+  pub behind : place ≡ length (flat_map spelling (frames_of bytes))
+
 -- A reader that has taken all of a stream holds what remains of it, and at a bad length only that. A frame that has just ended is still held.
 abbrev pub StandsAt : List ℕ → List ℕ → Type 0
 StandsAt bytes held = MatchBool (is_bad held) ((more : List ℕ) × (rest_of bytes ≡ held ++ more)) (rest_of bytes ≡ begun held)

@@ -1,5 +1,5 @@
 -- What a reader of frames holds, and what it answers.
-use Rattle.std.specs.Prelude.{ℕ, ◌+◌, ◌<◌, ◌≤◌, Bool, true, false, if◌then◌else◌, List, [], ◌∷◌, ◌++◌, length}
+use Rattle.std.specs.Prelude.{◌≡◌, ℕ, ◌+◌, ◌-◌, ◌<◌, ◌≤◌, Bool, true, false, if◌then◌else◌, List, [], ◌∷◌, ◌++◌, length}
 use Rattle.aseba_message.specs.Frames.{length_word, has_length, is_bad, is_frame, frame_len}
 use Rattle.aseba_message.specs.declared.reader.Fed.{Fed}
 use Rattle.aseba_message.specs.declared.reader.Fed.TheVariants.{More, Whole, TooLong}
@@ -16,6 +16,16 @@ answer bytes = if is_bad bytes then TooLong (length_word bytes) else (if is_fram
 -- the bytes of a begun frame: a whole one has made way
 abbrev pub begun : List ℕ → List ℕ
 begun bytes = if is_frame bytes then [] else bytes
+
+-- how many they are
+abbrev pub begun_len : List ℕ → ℕ
+begun_len held = if is_frame held then 0 else length held
+
+-- How many bytes of a begun frame there are behind so many more, when there were so many before and the last of them did this.
+abbrev pub BegunBehind : (before count : ℕ) → Fed → (now : ℕ) → Type 0
+BegunBehind before count More now = (now ≡ before + count) × (now ≤ 1029)
+BegunBehind before count Whole now = now ≡ 0
+BegunBehind before count (TooLong len) now = now ≡ 2
 
 -- the bytes held after one more; behind a bad length nothing is taken
 abbrev pub fed : List ℕ → ℕ → List ℕ
@@ -39,3 +49,7 @@ taken held (byte ∷ piece) =
 -- how many bytes it takes until more can be said
 abbrev pub wanted : List ℕ → ℕ
 wanted held = if has_length held then frame_len held else 2
+
+-- How many bytes of the stream may be looked at next, so that none of them stands behind the frame: those up to the one that may say more. Behind a bad length there are none.
+abbrev pub awaited : List ℕ → ℕ
+awaited held = if is_bad held then 0 else wanted (begun held) - begun_len held

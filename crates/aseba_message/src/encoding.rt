@@ -1,6 +1,7 @@
 ghost use Rattle.std.specs.Prelude.{◌≡◌, ◌≤◌, ◌++◌, length, OnOk, OnErr};
 ghost use Rattle.byteorder.specs.Endian.{little_bytes};
 ghost use Rattle.aseba_message.specs.Frames.{spelling};
+ghost use Rattle.aseba_message.specs.Cut.{IsMessage};
 
 use crate::frame::Frame;
 use aseba_words::{List, Mem};
@@ -12,6 +13,7 @@ use std::mem;
 pub fn encode(alloc: Global, frame: &Frame, out: &mut List<u8>) -> Result<(), Mem>
     ensures ok { OnOk result (out.new ≡ out.old ++ spelling frame.now) }
     ensures err { OnErr result (out.new ≡ out.old) }
+    ensures message { IsMessage frame.now }
 {
     let mut bytes = mem::replace(out, List::new(alloc)).into_vec();
     let added = append(&mut bytes, frame);
@@ -22,10 +24,12 @@ pub fn encode(alloc: Global, frame: &Frame, out: &mut List<u8>) -> Result<(), Me
 fn append(bytes: &mut Vec<u8>, frame: &Frame) -> Result<(), Mem>
     ensures ok { OnOk result (bytes.new.items ≡ bytes.old.items ++ spelling frame.now) }
     ensures err { OnErr result (bytes.new.items ≡ bytes.old.items) }
+    ensures message { IsMessage frame.now }
 {
+    let (source, kind) = (frame.source, frame.kind);
     let payload = frame.payload.as_slice();
     let len = bytes.len();
-    bytes.extend_from_slice(&header(payload.len() as u16, frame.source, frame.kind))?;
+    bytes.extend_from_slice(&header(payload.len() as u16, source, kind))?;
     if bytes.extend_from_slice(payload).is_err() {
         bytes.truncate(len);
         return Err(Mem);

@@ -9,5 +9,5 @@ mod reader;
 
 pub use encoding::encode;
 pub use frame::Frame;
-pub use law::one_cut;
+pub use law::{is_message, one_cut};
 pub use reader::{Fed, FrameReader, Taken};

@@ -1,7 +1,7 @@
-ghost use Rattle.std.specs.Prelude.{◌≡◌, ◌+◌, ◌<◌, ◌≤◌, ℕ, List as Items, [], ◌∷◌, ◌++◌, ◌-◌, min, take, length, if◌then◌else◌, IfOk, IsTrue};
+ghost use Rattle.std.specs.Prelude.{◌≡◌, ◌+◌, ◌<◌, ◌≤◌, ℕ, List as Items, [], ◌∷◌, ◌++◌, ◌-◌, min, take, length, false, IfOk, IsTrue};
 ghost use Rattle.aseba_message.specs.Frames.{is_bad, is_frame, message_of};
-ghost use Rattle.aseba_message.specs.Reader.{Held, answer, fed, is_more, taken, wanted};
-ghost use Rattle.aseba_message.specs.Cut.{StandsAt, frames_of, rest_of, ended, is_too_long};
+ghost use Rattle.aseba_message.specs.Reader.{BegunBehind, Held, answer, awaited, begun_len, fed, is_more, taken, wanted};
+ghost use Rattle.aseba_message.specs.Cut.{IsMessage, StandsAt, frames_of, rest_of, ended, is_too_long};
 
 use crate::frame::Frame;
 use aseba_words::{List, Mem};
@@ -69,6 +69,7 @@ impl FrameReader {
     /// A reader at the beginning of a stream.
     pub fn new() -> FrameReader
         ensures bytes { result ≡ [] }
+        ensures held { begun_len result ≡ 0 }
         ensures stream { StandsAt [] result }
     {
         FrameReader {
@@ -81,6 +82,7 @@ impl FrameReader {
     pub fn feed(&mut self, byte: u8) -> Fed
         ensures bytes { self.new ≡ fed self.old byte }
         ensures answer { result ≡ answer self.new }
+        ensures held { BegunBehind (begun_len self.old) 1 result (begun_len self.new) }
         ensures stream { (bytes : Items ℕ) → StandsAt bytes self.old
             → StandsAt (bytes ++ byte ∷ []) self.new × (frames_of (bytes ++ byte ∷ []) ≡ frames_of bytes ++ ended result self.new) }
         ensures bad { (bytes : Items ℕ) → StandsAt bytes self.old → is_bad (rest_of (bytes ++ byte ∷ [])) ≡ is_too_long result }
@@ -110,7 +112,10 @@ impl FrameReader {
         ensures some { 0 < result.count }
         ensures within { result.count ≤ length piece.now }
         ensures taken { (result.count, result.fed, self.new) ≡ taken self.old piece.now }
+        // A piece of no more than the bytes that are awaited is taken whole.
+        ensures all { length piece.now ≤ awaited self.old → result.count ≡ length piece.now }
         ensures answer { result.fed ≡ answer self.new }
+        ensures held { BegunBehind (begun_len self.old) result.count result.fed (begun_len self.new) }
         ensures stream { (bytes : Items ℕ) → StandsAt bytes self.old
             → StandsAt (bytes ++ take result.count piece.now) self.new
             × (frames_of (bytes ++ take result.count piece.now) ≡ frames_of bytes ++ ended result.fed self.new) }
@@ -165,21 +170,48 @@ impl FrameReader {
         }
     }
 
+    /// Whether the last byte ended a frame, which `frame` then gives.
+    pub fn is_whole(&self) -> bool
+        ensures { result ≡ is_frame self.now }
+    {
+        match answer_of(&self.buffer[..self.len]) {
+            Fed::Whole => true,
+            Fed::More | Fed::TooLong { .. } => false,
+        }
+    }
+
     /// The frame that has just ended.
     pub fn frame(&self, alloc: Global) -> Result<Frame, Mem>
         requires { IsTrue (is_frame self.now) }
-        ensures { IfOk result (λ frame. frame ≡ message_of self.now) }
+        ensures said { IfOk result (λ frame. frame ≡ message_of self.now) }
+        ensures message { IfOk result IsMessage }
     {
         frame_of(alloc, &self.buffer[..self.len])
     }
 
     /// How many bytes of a begun frame have come. It is 2 behind a length that is too long.
     pub fn held(&self) -> usize
-        ensures { result ≡ (if is_frame self.now then 0 else length self.now) }
+        ensures { result ≡ begun_len self.now }
     {
         match answer_of(&self.buffer[..self.len]) {
             Fed::Whole => 0,
             Fed::More | Fed::TooLong { .. } => self.len,
+        }
+    }
+
+    /// How many bytes may be read from a link next, so that none is read behind the frame that has
+    /// begun or is to begin: those that are missing to its length, or then to its end. There are
+    /// none behind a length that is too long, and else at least one.
+    pub fn awaited(&self) -> usize
+        ensures bytes { result ≡ awaited self.now }
+        ensures few { result ≤ 1028 }
+        ensures some { is_bad self.now ≡ false → 0 < result }
+    {
+        let bytes = &self.buffer[..self.len];
+        match answer_of(bytes) {
+            Fed::More => wanted_of(bytes) - self.len,
+            Fed::Whole => wanted_of(&[]),
+            Fed::TooLong { .. } => 0,
         }
     }
 }

@@ -1,5 +1,8 @@
-use Rattle.std.proofs.Common.{[], ◌∷◌, ◌++◌, subst, sym, ap, ◌∙◌}
+use Rattle.std.proofs.Common.{ℕ, List, [], ◌∷◌, ◌++◌, subst, sym, ap, ◌∙◌}
 use Rattle.aseba_message.specs.Cut.{frames_of, ended, is_too_long}
+use Rattle.aseba_message.specs.Reader.{BegunBehind, answer, begun_len, fed}
+use Rattle.aseba_message.specs.declared.reader.Fed.{Fed}
+use Rattle.aseba_message.proofs.Begun.{fed-behind}
 use Rattle.aseba_message.proofs.Standing.{Step, step, stands-bad}
 use Rattle.aseba_message.proofs.reader.FrameReader.feed.Goals as goal
 
@@ -14,3 +17,11 @@ returns-clause-stream c = λ bytes stands.
 pub returns-clause-bad : goal.returns-clause-bad
 returns-clause-bad c = λ bytes stands.
     stands-bad (bytes ++ c.args.byte ∷ []) c.take_byte.new.self (returns-clause-stream c bytes stands).0 ∙ ap is_too_long (sym c.take_byte.ensures.answer)
+
+pub returns-clause-held : goal.returns-clause-held
+returns-clause-held c =
+    let taken = c.take_byte.ensures in
+    let old = c.args.self.now in
+    let said = taken.answer ∙ ap answer taken.bytes in
+    subst (λ (f : Fed). BegunBehind (begun_len old) 1 f (begun_len c.take_byte.new.self)) (sym said)
+    (subst (λ (held : List ℕ). BegunBehind (begun_len old) 1 (answer (fed old c.args.byte)) (begun_len held)) (sym taken.bytes) (fed-behind old c.args.byte taken.held))
