@@ -7,3 +7,6 @@ pub mod RowLaws
 pub mod Verdicts
 pub mod Written
 pub mod Lengths
+pub mod Short
+pub mod Meanings
+pub mod Messages

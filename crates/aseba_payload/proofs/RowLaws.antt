@@ -6,7 +6,7 @@ use Rattle.aseba_payload.specs.declared.payload.Payload.TheVariants.{User}
 use Rattle.aseba_payload.specs.declared.fault.Fault.{Fault}
 use Rattle.aseba_payload.specs.declared.fault.Fault.TheVariants.{UnknownType}
 use Rattle.aseba_payload.specs.Layout.{Layout, words, Values, spelling, CanSpell, AreValues, fields_len, has_words}
-use Rattle.aseba_payload.specs.Rows.{Maker, Row, by_row, row_of, samples, kind_of, fields_of, bytes_of, HasKind, HasShortTexts, IsPayload}
+use Rattle.aseba_payload.specs.Rows.{Maker, Row, by_row, row_of, samples, kind_of, fields_of, bytes_of, HasKind, CanBeSpelled, IsPayload}
 use Rattle.aseba_payload.specs.Decoding.{HaveFields}
 use Rattle.aseba_payload.specs.Reading.{fields_at, row_among, row_at}
 use Rattle.aseba_payload.proofs.Layouts.{made, rest_at, fields-short, fields-fits, fields-again}
@@ -41,7 +41,7 @@ row-known (User kind ws) small bytes = rw (lt-ltb kind 0x8000 small) refl
 row-known p named bytes = refl
 
 -- a payload is read from its bytes
-pub row-again : (p : Payload) → HasKind p → HasShortTexts p → IsPayload p → row_at (kind_of p) (bytes_of p) ≡ Ok (p, [])
+pub row-again : (p : Payload) → HasKind p → CanBeSpelled p → IsPayload p → row_at (kind_of p) (bytes_of p) ≡ Ok (p, [])
 row-again (User kind ws) small texts value = row-known (User kind ws) small (bytes_of (User kind ws)) ∙ fields-again words (User kind) ws texts value
 row-again p named texts value = fields-again (said p).row.fields (said p).row.variant (said p).values texts value
 
@@ -49,7 +49,7 @@ row-again p named texts value = fields-again (said p).row.fields (said p).row.va
 pub record Makes (q : Payload) (vs : Values (row_of q).fields) (p : Payload) : Type 0 where
   pub named : HasKind p
   pub kind : kind_of p ≡ kind_of q
-  pub texts : HasShortTexts p
+  pub texts : CanBeSpelled p
   pub value : IsPayload p
   pub spelled : bytes_of p ≡ spelling (row_of q).fields vs
 

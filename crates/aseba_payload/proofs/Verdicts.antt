@@ -13,6 +13,7 @@ use Rattle.aseba_payload.specs.Decoding.{Says, HaveFields, GoesOn, HasHalfWord, 
 use Rattle.aseba_payload.specs.Reading.{◌>>=◌, Fails, fields_at, row_at, payload_at, error_of}
 use Rattle.aseba_payload.proofs.Fields.{AreBytes, done, done-is}
 use Rattle.aseba_payload.proofs.Layouts.{rest_at, fields-short, fields-fits, fields-found}
+use Rattle.aseba_payload.proofs.Short.{can-from, can-short, can-few}
 use Rattle.aseba_payload.proofs.RowLaws.{fields-is, row-again, row-makes, Known, row-either, unknown-none, have-read}
 
 abbrev ended : ℕ → Payload × List ℕ → Result Payload Fault
@@ -51,7 +52,7 @@ pub says-read : (kind : ℕ) (bytes : List ℕ) (p : Payload) → Says kind byte
 says-read kind bytes p says value =
     ap (λ (k : ℕ). payload_at k bytes) says.kind_is
     ∙ (ap (payload_at (kind_of p)) says.spelled
-    ∙ payload-from (kind_of p) (bytes_of p) (Ok (p, [])) (row-again p says.named says.texts value))
+    ∙ payload-from (kind_of p) (bytes_of p) (Ok (p, [])) (row-again p says.named (can-from p says.texts says.few) value))
 
 pub record Told (kind : ℕ) (bytes : List ℕ) (p : Payload) : Type 0 where
   pub says : Says kind bytes p
@@ -66,7 +67,8 @@ found-told kind known bytes p all e =
       says = record {
         named = makes.named;
         kind_is = sym known.kind_is ∙ sym makes.kind;
-        texts = makes.texts;
+        texts = can-short _ makes.texts;
+        few = can-few _ makes.texts;
         spelled = found.spelled ∙ sym makes.spelled;
       };
       value = makes.value;
@@ -256,7 +258,7 @@ err-decodes kind bytes f all e = record {
 
 -- ---- the laws
 
-fault-some : (kind : ℕ) (bytes : List ℕ) (f : Fault) → payload_at kind bytes ≡ Err f → f ≢ Mem → error_of kind (length bytes) f ≢ errors.Mem
+pub fault-some : (kind : ℕ) (bytes : List ℕ) (f : Fault) → payload_at kind bytes ≡ Err f → f ≢ Mem → error_of kind (length bytes) f ≢ errors.Mem
 fault-some kind bytes Mem read some e = some refl
 fault-some kind bytes Short read some e = cc
 fault-some kind bytes (Long at) read some e = cc

@@ -4,13 +4,14 @@ use Rattle.aseba_payload.specs.declared.payload.Payload.{Payload}
 use Rattle.aseba_payload.specs.declared.error.PayloadError.{PayloadError}
 use Rattle.aseba_payload.specs.declared.error.PayloadError.TheVariants.{Short, Long, NotWords, UnknownType, Mem}
 use Rattle.aseba_payload.specs.Layout.{Layout, fields_len, has_words}
-use Rattle.aseba_payload.specs.Rows.{HasKind, HasShortTexts, IsPayload, kind_of, fields_of, bytes_of}
+use Rattle.aseba_payload.specs.Rows.{HasKind, HasShortTexts, HasFewParams, IsPayload, kind_of, fields_of, bytes_of}
 
 -- a frame of this type with these bytes says the payload
 pub record Says (kind : ℕ) (bytes : List ℕ) (p : Payload) : Type 0 where
   pub named : HasKind p
   pub kind_is : kind ≡ kind_of p
   pub texts : HasShortTexts p
+  pub few : HasFewParams p
   pub spelled : bytes ≡ bytes_of p
 
 -- the payloads of this type have these fields

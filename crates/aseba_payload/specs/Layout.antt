@@ -45,9 +45,26 @@ spelling (word l) vs = word_bytes vs.0 ++ spelling l vs.1
 spelling (text l) vs = text_bytes vs.0 ++ spelling l vs.1
 spelling (params l) vs = params_bytes vs.0 ++ spelling l vs.1
 
--- What can be spelled: texts of at most 255 bytes, and at most 65535 parameters.
+-- each text among the values has at most 255 bytes
 abbrev pub HasShortName : Param → Type 0
 HasShortName p = IsShort p.name
+
+abbrev pub HaveShortTexts : (l : Layout) → Values l → Type 0
+HaveShortTexts ends vs = Unit {0}
+HaveShortTexts words ws = Unit {0}
+HaveShortTexts (word l) vs = HaveShortTexts l vs.1
+HaveShortTexts (text l) vs = IsShort vs.0 × HaveShortTexts l vs.1
+HaveShortTexts (params l) vs = AllByRecursion HasShortName vs.0 × HaveShortTexts l vs.1
+
+-- there are at most 65535 parameters
+abbrev pub HaveFewParams : (l : Layout) → Values l → Type 0
+HaveFewParams ends vs = Unit {0}
+HaveFewParams words ws = Unit {0}
+HaveFewParams (word l) vs = HaveFewParams l vs.1
+HaveFewParams (text l) vs = HaveFewParams l vs.1
+HaveFewParams (params l) vs = (length vs.0 < 2 ^ 16) × HaveFewParams l vs.1
+
+-- What can be spelled: short texts and few parameters.
 
 pub record AreCounted (ps : List Param) : Type 0 where
   pub few : length ps < 2 ^ 16

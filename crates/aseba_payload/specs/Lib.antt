@@ -3,3 +3,4 @@ pub mod Rows
 pub mod Decoding
 pub mod Reading
 pub mod Writing
+pub mod Meaning

@@ -3,7 +3,7 @@ use Rattle.std.specs.Prelude.{ℕ, ◌<◌, List, [], ◌∷◌, map}
 use Rattle.aseba_tree.specs.declared.description.Param.{Param}
 use Rattle.aseba_payload.specs.declared.payload.Payload.{Payload}
 use Rattle.aseba_payload.specs.declared.payload.Payload.TheVariants.{User, Describe, Variable, LocalEvent, NativeOf, Variables, BoundsAt, DivisionAt, KilledAt, ErrorAt, State, BreakSet, Present, GetDescription, SetBytecode, Reset, Run, Pause, Step, Stop, GetState, SetBreak, ClearBreak, ClearBreaks, GetVariables, SetVariables, GetNodeDescription, ListNodes}
-use Rattle.aseba_payload.specs.Layout.{Layout, ends, words, word, text, params, Values, spelling, CanSpell, AreValues}
+use Rattle.aseba_payload.specs.Layout.{Layout, ends, words, word, text, params, Values, spelling, HaveShortTexts, HaveFewParams, CanSpell, AreValues}
 
 -- what makes a payload of the values of such fields
 abbrev pub Maker : Layout → Type 0
@@ -103,9 +103,17 @@ abbrev pub HasKind : Payload → Type 0
 HasKind (User kind ws) = kind < 0x8000
 HasKind p = Unit {0}
 
--- texts are short and parameters are few enough to be spelled
+-- each text has at most 255 bytes
 abbrev pub HasShortTexts : Payload → Type 0
-HasShortTexts = by_row (λ kind l variant vs. CanSpell l vs)
+HasShortTexts = by_row (λ kind l variant vs. HaveShortTexts l vs)
+
+-- there are at most 65535 parameters
+abbrev pub HasFewParams : Payload → Type 0
+HasFewParams = by_row (λ kind l variant vs. HaveFewParams l vs)
+
+-- texts are short and parameters are few enough to be spelled
+abbrev pub CanBeSpelled : Payload → Type 0
+CanBeSpelled = by_row (λ kind l variant vs. CanSpell l vs)
 
 -- a payload of the code holds such values
 abbrev pub IsPayload : Payload → Type 0

@@ -1,4 +1,8 @@
+ghost use Rattle.std.specs.Prelude.{◌≡◌, ◌≢◌, IfOk, IfErr, Some, None};
+ghost use Rattle.std.specs.Result.{result_ok};
+ghost use Rattle.aseba_payload.specs.declared.error.PayloadError.{PayloadError};
 ghost use Rattle.aseba_payload.specs.Decoding.{Decodes};
+ghost use Rattle.aseba_payload.specs.Meaning.{payload_of};
 ghost use Rattle.aseba_payload.specs.Reading.{Gives, row_at, payload_at};
 
 use crate::error::PayloadError;
@@ -56,13 +60,17 @@ fn payload(alloc: Global, kind: u16, bytes: &[u8]) -> Result<Payload, Fault>
 
 /// What a frame says: the one payload of its type that its bytes spell, or what is wrong with them.
 pub fn decode(alloc: Global, frame: &Frame) -> Result<Payload, PayloadError>
-    ensures { Decodes frame.now.kind frame.now.payload result }
+    ensures said { Decodes frame.now.kind frame.now.payload result }
+    ensures payload { IfOk result (λ payload. payload_of frame.now ≡ Some payload) }
+    ensures none { IfErr result (λ error. error ≢ PayloadError.Mem → payload_of frame.now ≡ None) }
 {
     decoded(alloc, frame.kind, frame.payload.as_slice())
 }
 
 fn decoded(alloc: Global, kind: u16, bytes: &[u8]) -> Result<Payload, PayloadError>
-    ensures { Decodes kind bytes.now result }
+    ensures said { Decodes kind bytes.now result }
+    ensures payload { IfOk result (λ payload. result_ok (payload_at kind bytes.now) ≡ Some payload) }
+    ensures none { IfErr result (λ error. error ≢ PayloadError.Mem → result_ok (payload_at kind bytes.now) ≡ None) }
 {
     match payload(alloc, kind, bytes) {
         Ok(payload) => Ok(payload),

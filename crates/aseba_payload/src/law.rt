@@ -1,10 +1,12 @@
-ghost use Rattle.std.specs.Prelude.{◌≡◌, ◌<◌, ◌≢◌, ◌⊎◌, ℕ, List as Items, length, slice_index};
+ghost use Rattle.std.specs.Prelude.{◌≡◌, ◌<◌, ◌≢◌, ◌⊎◌, ℕ, List as Items, length, slice_index, Some, None};
+ghost use Rattle.aseba_message.specs.Message.{Message};
 ghost use Rattle.aseba_tree.specs.declared.description.Native.{Native};
 ghost use Rattle.aseba_tree.specs.Inside.{native_message_len};
 ghost use Rattle.aseba_payload.specs.declared.payload.Payload.{Payload};
 ghost use Rattle.aseba_payload.specs.declared.error.PayloadError.{PayloadError};
 ghost use Rattle.aseba_payload.specs.Rows.{IsPayload, bytes_of};
 ghost use Rattle.aseba_payload.specs.Decoding.{Says, Tells};
+ghost use Rattle.aseba_payload.specs.Meaning.{payload_of};
 
 /// The bytes of a frame of some type say one payload, or else one thing is wrong with them, and
 /// never both. So no bytes are those of two payloads of a type, and what was written is read.
@@ -23,4 +25,15 @@ pub fn one_meaning()
 /// keeps to them can be told of.
 pub fn native_length()
     ensures { (n : Native) → length (bytes_of (Payload.NativeOf n.name n.text n.params)) ≡ native_message_len n }
+{}
+
+/// The payload of a message is the one that it says. It has none exactly where something is wrong
+/// with its bytes.
+pub fn payload_is_said()
+    ensures said { (m : Message) (p : Payload) → IsPayload p → Says m.kind m.payload p → payload_of m ≡ Some p }
+    ensures only { (m : Message) (p : Payload) → ((i : ℕ) → slice_index m.payload i < 256)
+        → payload_of m ≡ Some p → IsPayload p × Says m.kind m.payload p }
+    ensures none { (m : Message) (e : PayloadError) → e ≢ PayloadError.Mem → Tells m.kind m.payload e → payload_of m ≡ None }
+    ensures wrong { (m : Message) → ((i : ℕ) → slice_index m.payload i < 256) → payload_of m ≡ None
+        → (e : PayloadError) × (e ≢ PayloadError.Mem) × Tells m.kind m.payload e }
 {}

@@ -15,5 +15,5 @@ mod writing;
 pub use decoding::decode;
 pub use encoding::to_frame;
 pub use error::PayloadError;
-pub use law::{native_length, one_meaning};
+pub use law::{native_length, one_meaning, payload_is_said};
 pub use payload::Payload;
