@@ -156,9 +156,9 @@ deepest = 12884901888
 held-within : (n : ℕ) → n ≤ 18446744073709551615 → held n ≡ n
 held-within n h = omega arith
 
--- no number of a source reaches the greatest one
+-- no number of a source reaches the greatest one, nor does that of the temporaries with all cells of a node
 pub within : (program : Program) (known : Meanings) → Ready program known → (called : List Name) → IsWhole program called
-    → (source_words program ≤ 18446744073709551615) × (source_depth program ≤ 18446744073709551615) × (source_room program ≤ 18446744073709551615)
+    → (source_words program ≤ 18446744073709551615) × (source_depth program ≤ 18446744073709551615) × (source_room program + 4096 ≤ 18446744073709551615)
 within program known ready-now called w =
     let source = program.source in
     let depths = depth_of_sub program in
@@ -196,4 +196,12 @@ counted-source project source i t none ps fit e =
     let r = ready project source i t vars ps fit e in
     let b = within program known r called w in
     source-is program known r called (whole.depths_after known (jump_words program.project) source.parts (length source.parts)) (depths-are program known r called limit w.parts (length source.parts)) limit w.parts w.vars w.values w.fine w.none
-    ∙ (λ j. record { words = held-within (source_words program) b.0 j; depth = held-within (source_depth program) b.1 j; room = held-within (source_room program) b.2 j })
+    ∙ (λ j. record { words = held-within (source_words program) b.0 j; depth = held-within (source_depth program) b.1 j; room = held-within (source_room program) (let r = b.2 in omega arith) j })
+
+-- the temporaries and all cells that a node may have are a number of 64 bits together
+pub room-small : (project : code_project.Project) (source : Source) → InsideProject project → IsTree source → faults (program_at project source) ≡ [] → (ps : List Placed) → NumbersFit project ps → map placed_view ps ≡ layout (program_at project source)
+    → source_room (program_at project source) + 4096 ≤ 18446744073709551615
+room-small project source i t none ps fit e =
+    let w = is-whole project source i t none in
+    let vars = nil_left (decls_faults (first_scope (project_view project)) source.vars) _ (nil_left _ (parts_faults (world_of (program_at project source)) [] source.parts) (nil_left _ (recursion_faults [] (sub_calls source.parts)) none)) in
+    (within (program_at project source) (known_at project source.parts ps) (ready project source i t vars ps fit e) (called_in (program_at project source)) w).2

@@ -28,3 +28,5 @@ pub use checked::Checked;
 pub use checking::check;
 pub use counting::{Numbers, numbers};
 pub use error::CheckError;
+pub use parts::{native_places, sub_places};
+pub use table::Table;

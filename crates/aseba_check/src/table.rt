@@ -6,7 +6,8 @@ use aseba_words::{Mem, Name};
 use indexmap::IndexMap;
 use std::alloc::Global;
 
-/// A value for each of some names.
+/// A value for each of some names. The check and the expansion of a source look its names up in
+/// such tables.
 #[derive(Drop)]
 pub struct Table<V> {
     values: IndexMap<Name, V>,

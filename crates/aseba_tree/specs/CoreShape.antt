@@ -8,6 +8,8 @@ use Rattle.aseba_tree.specs.Core.{CoreStmt, core_stmt, CoreForm, store, branch, 
 use Rattle.aseba_tree.specs.Events.{is_event_number}
 use Rattle.aseba_tree.specs.CoreCells.{core_has_cells}
 use Rattle.aseba_tree.specs.CoreLines.{core_is_lined}
+use Rattle.aseba_tree.specs.NativeName.{native_named}
+use Rattle.aseba_tree.specs.Step.{native_place}
 use Rattle.aseba_tree.specs.Templates.{templates, cells_of_param}
 use Rattle.aseba_tree.specs.Limits.{farthest}
 use Rattle.aseba_tree.specs.Numbers.{is_large}
@@ -44,9 +46,10 @@ is_good_target core stored (into_index base size i) = is_indexed core base size 
 
 -- Natives
 
--- the parameters of a native by their sizes
+-- the parameters of a native by their sizes; since a source calls natives by their names, only the first of a name is called
 abbrev pub sizes_of_native : Project → ℕ → Option (List ℤ)
-sizes_of_native project id = option_map (λ native. map (λ p. p.size) native.params) (slice_get project.node.natives id)
+sizes_of_native project id =
+    if nat_eq (native_place project (native_named project id)) id then option_map (λ native. map (λ p. p.size) native.params) (slice_get project.node.natives id) else None
 
 -- each parameter reads its cells from its address on
 abbrev pub are_readable_params : Core → List ℕ → List ℤ → List ℕ → List ℤ → List ℕ → Bool
