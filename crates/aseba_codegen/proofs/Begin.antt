@@ -1,39 +1,33 @@
--- The machine at its first tick stands at the core's first state.
-use Rattle.std.proofs.Common.{◌≡◌, ℕ, zero, suc, ◌+◌, ◌-◌, ◌%◌, ◌<◌, ◌≤◌, ◌≢◌, ◌||◌, Bool, true, false, if◌then◌else◌, nat_lt, nat_le, nat_eq, ℤ, pos, List, [], ◌∷◌, ◌++◌, length, map, take, drop, replicate, slice_get, slice_index_or, slice_set, Option, Some, None, refl, sym, ap, ◌∙◌, subst, arith, true≢false, eqb-true, eq-eqb, ltb-true, le-leb, get_or-set_same, get_or-set_other, length-set}
-use Rattle.std.proofs.lemmas.List.{length-replicate, length-map, get_or-replicate}
-use Rattle.std.specs.Prelude.{All, find, option_map, bytes_eq, codes}
-use Rattle.std.specs.Int.{cast_signed, w16, int_wrap}
+-- The machine at its first tick stands at the first state of a core of straight code.
+use Rattle.std.proofs.Common.{◌≡◌, ℕ, ◌+◌, ◌%◌, ◌<◌, ◌≤◌, ◌||◌, Bool, true, false, if◌then◌else◌, nat_lt, ℤ, pos, List, [], ◌∷◌, ◌++◌, length, drop, replicate, Option, Some, None, refl, sym, ap, ◌∙◌, subst, arith, true≢false, ltb-true}
+use Rattle.std.proofs.lemmas.List.{length-replicate, length-map}
+use Rattle.std.specs.Prelude.{option_map, codes}
 use Rattle.aseba_words.specs.Cell.{wrapped}
-use Rattle.aseba_tree.specs.Code.{Name, Sized, Project}
-use Rattle.aseba_tree.specs.Layout.{placed_from, address_from, address_of}
+use Rattle.aseba_tree.specs.Code.{Sized, Project}
+use Rattle.aseba_tree.specs.Layout.{address_of}
 use Rattle.aseba_tree.specs.Core.{core_stmt, CoreForm, store, branch, on_edge, loop, send, enter, use_native, go_back, CoreStmts, no_core, core_stmts, Core}
-use Rattle.aseba_tree.specs.CoreStep.{finish_core, CoreProgram, core_tasks, core_list_whens, whens_before, put_into, put_from, core_loaded}
+use Rattle.aseba_tree.specs.CoreStep.{finish_core, CoreProgram, core_tasks, core_list_whens, whens_before, put_into, core_loaded}
 use Rattle.aseba_tree.specs.CoreNumbers.{core_sub_depth, core_list_depth, core_list_weight, core_weight}
 use Rattle.aseba_tree.specs.CoreShape.{is_readable, is_good_list}
 use Rattle.aseba_tree.specs.Numbers.{is_large}
-use Rattle.aseba_vm.specs.State.{State, named, none_held}
-use Rattle.aseba_vm.specs.Lists.{handler_of}
-use Rattle.aseba_vm.specs.Loaded.{reset_state, fresh_cells}
+use Rattle.aseba_vm.specs.State.{State}
+use Rattle.aseba_vm.specs.Loaded.{fresh_cells}
 use Rattle.aseba_target.specs.Node.{shape_of, IsStarted}
 use Rattle.aseba_codegen.specs.declared.coded.Coded.{Coded}
 use Rattle.aseba_codegen.specs.Places.{places_in, edge_places, HasBits}
-use Rattle.aseba_codegen.specs.Words.{Site, on_line, store_code, site_of, form_code, list_code, body_code, init_code, init_start, part_starts, table_of, table_code, core_code, code_words}
+use Rattle.aseba_codegen.specs.Words.{Site, on_line, store_code, site_of, form_code, list_code, body_code, init_code, init_start, part_starts, table_code, core_code, code_words}
 use Rattle.aseba_codegen.specs.Agrees.{IsStraightCore, is_straight, is_straight_form}
 use Rattle.aseba_tree.specs.CoreCells.{list_has_cells}
 use Rattle.aseba_tree.specs.CoreLines.{list_is_lined}
 use Rattle.aseba_vm.specs.Words.{end_word, emit_word}
-use Rattle.aseba_codegen.proofs.Reach.{Lined, Stands, stands-split, stands-lined}
+use Rattle.aseba_codegen.proofs.Reach.{Lined, Stands, stands-split, stands-lined, stands-at}
 use Rattle.aseba_codegen.proofs.Values.{and-left, and-right}
-use Rattle.aseba_codegen.proofs.Lengths.{code-long}
-use Rattle.aseba_codegen.proofs.Groups.{Base, Reads, Placed, Working, Aligned, none-at, core_none-at}
-use Rattle.aseba_codegen.proofs.Placing.{stands-at, weight-least, placed-list}
-
--- The code in memory
-
-holds-words : (code : List Coded) (pad : List ℕ) (at : ℕ) (c : Coded) → slice_get code at ≡ Some c → slice_get (map (λ x. x.word) code ++ pad) at ≡ Some c.word
-holds-words [] pad at c h = cc
-holds-words (x ∷ code) pad zero c h = let same : x ≡ c = cc in ap (λ (y : Coded). Some y.word) same
-holds-words (x ∷ code) pad (suc at) c h = holds-words code pad at c h
+use Rattle.aseba_codegen.proofs.CellLists.{none-at, core_none-at}
+use Rattle.aseba_codegen.proofs.Groups.{Base, Reads, Placed, Working, Aligned}
+use Rattle.aseba_codegen.proofs.FirstState.{holds-words, named-address, first-cells, named-long, split-at, first_state, reset-is}
+use Rattle.aseba_codegen.proofs.Puts.{address-size, put_into-long}
+use Rattle.aseba_codegen.proofs.GoodLists.{weight-least}
+use Rattle.aseba_codegen.proofs.Placing.{placed-list}
 
 -- code without a `when`
 abbrev NoEdge : List Coded → Type 0
@@ -81,106 +75,6 @@ whens-none (core_stmts (core_stmt line (loop c body)) ss) h = absurd (true≢fal
 whens-none (core_stmts (core_stmt line (enter which)) ss) h = absurd (true≢false (sym h))
 whens-none (core_stmts (core_stmt line (use_native id values)) ss) h = absurd (true≢false (sym h))
 whens-none (core_stmts (core_stmt line go_back) ss) h = absurd (true≢false (sym h))
-
--- The cells
-
--- a node's id as its cell
-id-cell : (id : ℕ) → id < 65536 → cast_signed w16 id ≡ wrapped (pos id)
-unfolding int_wrap
-id-cell id below = let same : id ≡ id % 65536 = omega arith in ap (cast_signed w16) same
-
--- where a variable of a name begins
-named-address : (variables : List Sized) (name : Name) (base : ℕ) → option_map (λ v. v.start) (find (λ v. bytes_eq v.name name) (placed_from base variables)) ≡ option_map (λ x. x.0) (address_from base variables name)
-named-address [] name base = refl
-named-address (v ∷ variables) name base = by_test (bytes_eq v.name name) (named-address variables name (base + v.size))
-  where
-    by_test : (b : Bool) → option_map (λ v. v.start) (find (λ v. bytes_eq v.name name) (placed_from (base + v.size) variables)) ≡ option_map (λ x. x.0) (address_from (base + v.size) variables name)
-        → option_map (λ v. v.start) (if b then Some (record { name = v.name; start = base; size = v.size }) else find (λ v. bytes_eq v.name name) (placed_from (base + v.size) variables))
-        ≡ option_map (λ x. x.0) (if b then Some (base, v.size) else address_from (base + v.size) variables name)
-    by_test true ih = refl
-    by_test false ih = ih
-
-address-size : (variables : List Sized) (name : Name) (base : ℕ) (x : ℕ × ℕ) → All (λ v. 1 ≤ v.size) variables → address_from base variables name ≡ Some x → 1 ≤ x.1
-address-size [] name base x all e = cc
-address-size (v ∷ variables) name base x all e =
-    by_test (bytes_eq v.name name) e (λ h. address-size variables name (base + v.size) x (λ k d below. all (suc k) d (omega arith)) h)
-  where
-    by_test : (b : Bool) → (if b then Some (base, v.size) else address_from (base + v.size) variables name) ≡ Some x → (address_from (base + v.size) variables name ≡ Some x → 1 ≤ x.1) → 1 ≤ x.1
-    by_test true h ih = let same : (base, v.size) ≡ x = cc in subst (λ (y : ℕ × ℕ). 1 ≤ y.1) same (all zero v (omega arith))
-    by_test false h ih = ih h
-
-take-one : {A : Type 0} (n : ℕ) (x : A) → 1 ≤ n → take n (x ∷ []) ≡ x ∷ []
-take-one zero x h = absurd (omega arith)
-take-one (suc n) x h = by_rest n
-  where
-    by_rest : (n : ℕ) → x ∷ take n [] ≡ x ∷ []
-    by_rest zero = refl
-    by_rest (suc n) = refl
-
-set-at : (n k address a : ℕ) (v w : ℤ) → a < n → a < k → v ≡ w → slice_index_or (slice_set (replicate n (pos 0)) address v) a (pos 0) ≡ slice_index_or (slice_set (replicate k (pos 0)) address w) a (pos 0)
-set-at n k address a v w in_n in_k same = by_test (nat_eq a address) refl
-  where
-    long : (m : ℕ) → length (replicate m (pos 0)) ≡ m
-    long m = length-replicate m (pos 0)
-
-    by_test : (b : Bool) → nat_eq a address ≡ b → slice_index_or (slice_set (replicate n (pos 0)) address v) a (pos 0) ≡ slice_index_or (slice_set (replicate k (pos 0)) address w) a (pos 0)
-    by_test true e =
-        let here : a ≡ address = eqb-true a address e in
-        rw (← here) (get_or-set_same (replicate n (pos 0)) a v (pos 0) (omega (arith, length-replicate n (pos 0))) ∙ same ∙ sym (get_or-set_same (replicate k (pos 0)) a w (pos 0) (omega (arith, length-replicate k (pos 0)))))
-    by_test false e =
-        let other : a ≢ address = λ h. true≢false (sym (eq-eqb a address h) ∙ e) in
-        get_or-set_other (replicate n (pos 0)) address a v (pos 0) other ∙ get_or-replicate n a (pos 0) (pos 0) in_n
-        ∙ sym (get_or-set_other (replicate k (pos 0)) address a w (pos 0) other ∙ get_or-replicate k a (pos 0) (pos 0) in_k)
-
--- the cells of machine and core before the first tick
-first-cells : (o : Option (ℕ × ℕ)) (id n k a : ℕ) → ((x : ℕ × ℕ) → o ≡ Some x → 1 ≤ x.1) → a < n → a < k → id < 65536
-    → slice_index_or (named (option_map (λ x. x.0) o) id (replicate n (pos 0))) a (pos 0) ≡ slice_index_or (put_into o 0 (wrapped (pos id) ∷ []) (replicate k (pos 0))) a (pos 0)
-first-cells None id n k a some in_n in_k low = get_or-replicate n a (pos 0) (pos 0) in_n ∙ sym (get_or-replicate k a (pos 0) (pos 0) in_k)
-first-cells (Some x) id n k a some in_n in_k low =
-    let size : 1 ≤ x.1 = some x refl in
-    let count : x.1 - 0 ≡ x.1 = omega arith in
-    let place : x.0 + 0 ≡ x.0 = omega arith in
-    let one : take (x.1 - 0) (wrapped (pos id) ∷ []) ≡ wrapped (pos id) ∷ [] = rw count (take-one x.1 (wrapped (pos id)) size) in
-    rw (one, place) (set-at n k x.0 a (cast_signed w16 id) (wrapped (pos id)) in_n in_k (id-cell id low))
-
-put_from-long : {A : Type 0} (xs : List A) (at : ℕ) (vs : List A) → length (put_from xs at vs) ≡ length xs
-put_from-long xs at [] = refl
-put_from-long xs at (v ∷ vs) = put_from-long (slice_set xs at v) (suc at) vs ∙ length-set xs at v
-
-put_into-long : {A : Type 0} (o : Option (ℕ × ℕ)) (first : ℕ) (vs xs : List A) → length (put_into o first vs xs) ≡ length xs
-put_into-long None first vs xs = refl
-put_into-long (Some x) first vs xs = put_from-long xs (x.0 + first) (take (x.1 - first) vs)
-
-named-long : (o : Option ℕ) (id : ℕ) (xs : List ℤ) → length (named o id xs) ≡ length xs
-named-long None id xs = refl
-named-long (Some a) id xs = length-set xs a _
-
--- The machine
-
--- a list in two pieces
-split-at : {A : Type 0} (n : ℕ) (xs : List A) → take n xs ++ drop n xs ≡ xs
-split-at zero xs = refl
-split-at (suc n) [] = refl
-split-at (suc n) (x ∷ xs) = ap (λ rest. x ∷ rest) (split-at n xs)
-
--- with the words in its code and others behind them, at the place of the init code
-abbrev first_state : Project → List ℕ → List ℕ → List (Option ℤ) → ℕ → State
-first_state project words behind held at = record {
-  shape = shape_of project;
-  id = project.id;
-  code = words ++ behind;
-  cells = fresh_cells (shape_of project) project.id;
-  stack = [];
-  pc = at;
-  active = true;
-  paused = false;
-  held = none_held held;
-}
-
-reset-is : (project : Project) (words behind : List ℕ) (at : ℕ) (before : State) → before.shape ≡ shape_of project → before.id ≡ project.id → before.code ≡ words ++ behind
-    → handler_of 65535 (words ++ behind) ≡ Some at → reset_state false before ≡ first_state project words behind before.held at
-unfolding reset_state
-reset-is project words behind at before shape id code found = rw (code, found, shape, id) refl
 
 module _ (project : Project) (variables : List Sized) (init : CoreStmts) (cells room size depth : ℕ) where
   abbrev pub alone : Core

@@ -1,15 +1,15 @@
 -- What a memory has at places is what it was said to have there.
-use Rattle.std.proofs.Common.{◌≡◌, ℕ, zero, suc, ◌+◌, ◌-◌, ◌*◌, ◌/◌, ◌%◌, Bool, true, false, List, [], ◌∷◌, slice_get, slice_index_or, Some, refl, sym, ap, ◌∙◌, arith}
+use Rattle.std.proofs.Common.{◌≡◌, ℕ, zero, suc, ◌+◌, ◌-◌, ◌*◌, ◌/◌, ◌%◌, Bool, true, false, List, [], ◌∷◌, slice_get, slice_index_or, Some, refl, ap, ◌∙◌, arith}
 use Rattle.std.specs.Prelude.{◌==◌}
 use Rattle.aseba_vm.specs.Instructions.{bits_at, was_true, remembering}
 use Rattle.aseba_codegen.specs.declared.coded.Coded.{Coded}
 use Rattle.aseba_codegen.specs.Places.{word_at, HasBits}
 
-remembered : (bit : Bool) (word : ℕ) → was_true (remembering bit word) ≡ bit
+pub remembered : (bit : Bool) (word : ℕ) → was_true (remembering bit word) ≡ bit
 remembered true word = let e : (word - word / 512 % 2 * 512 + 512) / 512 % 2 ≡ 1 = omega arith in ap (λ n. n == 1) e
 remembered false word = let e : (word - word / 512 % 2 * 512 + 0) / 512 % 2 ≡ 0 = omega arith in ap (λ n. n == 1) e
 
-found : (memory : List ℕ) (at word : ℕ) → slice_get memory at ≡ Some word → slice_index_or memory at 0 ≡ word
+pub found : (memory : List ℕ) (at word : ℕ) → slice_get memory at ≡ Some word → slice_index_or memory at 0 ≡ word
 found [] at word h = cc
 found (x ∷ memory) zero word h = cc
 found (x ∷ memory) (suc at) word h = found memory at word h

@@ -47,7 +47,7 @@ pub record Runs (code : List Coded) (m : State) : Type 0 where
   pub many : length m.cells ≤ 4096
 
 -- a cell in sixteen bits
-sixteen-is : (v : ℤ) → FitsSigned w16 v → sixteen_bits v ≡ cast_unsigned w16 v
+pub sixteen-is : (v : ℤ) → FitsSigned w16 v → sixteen_bits v ≡ cast_unsigned w16 v
 sixteen-is (pos n) fits = let low : n < 32768 = fits.sfits in omega arith
 sixteen-is (negsuc n) fits = omega arith
 
@@ -70,7 +70,7 @@ module _ (code : List Coded) (cells : ℕ) (G : State → Type 0) where
       (top : List ℤ) (pc : ℕ) → line_at code pc ≡ line → ticked (put m top pc) ≡ (Sent (notice_of pc stop), halted (put m top pc)) → NoCall (put m top pc) → G (put m top pc)
 
   -- a word of the code is ready
-  ready-at : (m : State) (stack : List ℤ) (at line w : ℕ) → Runs code m → slice_get code at ≡ Some (record { word = w; line = line; is_edge = false }) → Ready (put m stack at) w
+  pub ready-at : (m : State) (stack : List ℤ) (at line w : ℕ) → Runs code m → slice_get code at ≡ Some (record { word = w; line = line; is_edge = false }) → Ready (put m stack at) w
   ready-at m stack at line w runs found = record { active = runs.active; unpaused = runs.unpaused; at = runs.holds at _ found refl }
 
   number-run : (v : ℤ) (m : State) (stack : List ℤ) (at end line n b : ℕ) (big : Bool) → (int_lt v (negsuc 2047) || int_lt (pos 2047) v) ≡ big

@@ -1,16 +1,16 @@
 -- From the code of a work's first task on, up to the first effect: the machine makes the core's step.
-use Rattle.std.proofs.Common.{◌≡◌, ℕ, zero, suc, ◌+◌, ◌-◌, ◌<◌, ◌≤◌, ◌≢◌, inl, inr, ◌&&◌, ◌||◌, max, Bool, true, false, if◌then◌else◌, nat_lt, nat_le, ℤ, pos, List, [], ◌∷◌, ◌++◌, length, map, take, drop, slice_get, slice_index_or, slice_set, slice_range, Option, Some, None, unwrap_or, Result, Ok, Err, refl, sym, ap, ◌∙◌, subst, arith, true≢false, ltb-true, lt-ltb, le-ltb, leb-true, leb-false, eqb-true, replicate, length-append, length-set, get_or-set_same, get_or-set_other}
+use Rattle.std.proofs.Common.{◌≡◌, ℕ, suc, ◌+◌, ◌-◌, ◌<◌, ◌≤◌, ◌≢◌, inl, inr, ◌&&◌, ◌||◌, max, Bool, true, false, if◌then◌else◌, nat_lt, nat_le, ℤ, pos, List, [], ◌∷◌, ◌++◌, length, take, drop, slice_get, slice_index_or, slice_set, slice_range, Option, Some, None, Result, Ok, Err, refl, sym, ap, ◌∙◌, subst, arith, true≢false, ltb-true, lt-ltb, le-ltb, leb-true, leb-false, eqb-true, length-append, length-set, get_or-set_same, get_or-set_other}
 use Rattle.std.proofs.lemmas.List.{length-replicate, length-map}
 use Rattle.std.specs.List.{list_all, range_with_len}
 use Rattle.std.specs.Prelude.{option_to_list, option_map, nat_eq}
-use Rattle.aseba_tree.specs.Code.{Name, Project, Sized}
+use Rattle.aseba_tree.specs.Code.{Name, Project}
 use Rattle.aseba_tree.specs.Line.{sent, report_by}
 use Rattle.aseba_tree.specs.Value.{Stop, by_zero, outside, Element, and_then, place_among}
-use Rattle.aseba_tree.specs.Step.{applied_cells, stop_report}
+use Rattle.aseba_tree.specs.Step.{stop_report}
 use Rattle.aseba_tree.specs.CoreExpr.{CoreExpr, CoreTarget, into, into_index, core_value, target_address}
 use Rattle.aseba_tree.specs.Core.{core_stmt, CoreForm, store, branch, on_edge, loop, send, enter, use_native, go_back}
 use Rattle.aseba_tree.specs.Events.{event_of}
-use Rattle.aseba_tree.specs.CoreStep.{CoreTask, perform_core, leave_core, turn_core, back_core, finish_core, CoreState, CoreProgram, CoreStepped, core_ended, core_stored, core_storing, core_stopped, core_none_held, with_temporary, core_task_done, core_first_done, core_work_line}
+use Rattle.aseba_tree.specs.CoreStep.{CoreTask, perform_core, leave_core, turn_core, back_core, finish_core, CoreState, CoreProgram, CoreStepped, core_ended, core_stored, core_storing, core_stopped, with_temporary, core_task_done, core_first_done, core_work_line}
 use Rattle.aseba_tree.specs.CoreRun.{call_behind, first_call, work_call}
 use Rattle.aseba_tree.specs.CoreNumbers.{core_form_depth, kept_nodes, own_nodes}
 use Rattle.aseba_tree.specs.CoreShape.{is_readable, is_readable_range, is_indexed, is_good_expr, is_good_target, is_good_form, kept_at, stands_in}
@@ -19,7 +19,7 @@ use Rattle.aseba_vm.specs.declared.opcode.Opcode.TheVariants as opcode
 use Rattle.aseba_vm.specs.declared.tick.Tick.{Tick}
 use Rattle.aseba_vm.specs.declared.tick.Tick.TheVariants.{Stored, Effect, Sent}
 use Rattle.aseba_vm.specs.declared.tick.Notice.TheVariants.{Emit, Bounds}
-use Rattle.aseba_vm.specs.State.{State, applied, ended}
+use Rattle.aseba_vm.specs.State.{State, ended}
 use Rattle.aseba_vm.specs.Tick.{ticked}
 use Rattle.aseba_target.specs.MachineRun.{is_effect, is_error, tick_report}
 use Rattle.aseba_codegen.specs.declared.coded.Coded.{Coded}
@@ -32,59 +32,14 @@ use Rattle.aseba_codegen.proofs.TickRows.{put, halted, stored, Ready, NoCall, no
 use Rattle.aseba_codegen.proofs.Reach.{Holds, Lined, lined-split, lined-line, line-of, Same, Hidden, Reaches, reached}
 use Rattle.aseba_codegen.proofs.Exprs.{Sits, notice_of, Runs, Goes, expr-run, place-cases}
 use Rattle.aseba_codegen.proofs.Values.{and-left, and-right, Alike, value-alike, sits, range-alike}
-
--- Lists
-
--- a store in two lists leaves them alike where they were
-set-alike : {X : Type 0} (xs ys : List X) (a i : ℕ) (v d : X) → a < length xs → a < length ys → slice_index_or xs i d ≡ slice_index_or ys i d → slice_index_or (slice_set xs a v) i d ≡ slice_index_or (slice_set ys a v) i d
-set-alike [] ys a i v d in_x in_y h = absurd (omega arith)
-set-alike (x ∷ xs) [] a i v d in_x in_y h = absurd (omega arith)
-set-alike (x ∷ xs) (y ∷ ys) zero zero v d in_x in_y h = refl
-set-alike (x ∷ xs) (y ∷ ys) zero (suc i) v d in_x in_y h = h
-set-alike (x ∷ xs) (y ∷ ys) (suc a) zero v d in_x in_y h = h
-set-alike (x ∷ xs) (y ∷ ys) (suc a) (suc i) v d in_x in_y h = set-alike xs ys a i v d (omega arith) (omega arith) h
-
-applied-at : (xs : List ℤ) (hs : List (Option ℤ)) (i : ℕ) → i < length xs → i < length hs → slice_index_or (applied xs hs) i (pos 0) ≡ unwrap_or (slice_index_or hs i None) (slice_index_or xs i (pos 0))
-applied-at [] hs i in_x in_h = absurd (omega arith)
-applied-at (x ∷ xs) [] i in_x in_h = absurd (omega arith)
-applied-at (x ∷ xs) (h ∷ hs) zero in_x in_h = refl
-applied-at (x ∷ xs) (h ∷ hs) (suc i) in_x in_h = applied-at xs hs i (omega arith) (omega arith)
-
-applied_cells-at : (xs : List ℤ) (hs : List (Option ℤ)) (i : ℕ) → i < length xs → i < length hs → slice_index_or (applied_cells xs hs) i (pos 0) ≡ unwrap_or (slice_index_or hs i None) (slice_index_or xs i (pos 0))
-applied_cells-at [] hs i in_x in_h = absurd (omega arith)
-applied_cells-at (x ∷ xs) [] i in_x in_h = absurd (omega arith)
-applied_cells-at (x ∷ xs) (h ∷ hs) zero in_x in_h = refl
-applied_cells-at (x ∷ xs) (h ∷ hs) (suc i) in_x in_h = applied_cells-at xs hs i (omega arith) (omega arith)
-
-applied-long : (xs : List ℤ) (hs : List (Option ℤ)) → length (applied xs hs) ≡ length xs
-applied-long [] hs = refl
-applied-long (x ∷ xs) [] = refl
-applied-long (x ∷ xs) (h ∷ hs) = ap suc (applied-long xs hs)
-
-applied_cells-long : (xs : List ℤ) (hs : List (Option ℤ)) → length (applied_cells xs hs) ≡ length xs
-applied_cells-long [] hs = refl
-applied_cells-long (x ∷ xs) [] = refl
-applied_cells-long (x ∷ xs) (h ∷ hs) = ap suc (applied_cells-long xs hs)
-
-pub none-at : (n i : ℕ) → slice_index_or (replicate {A = Option ℤ} n None) i None ≡ None
-none-at zero i = refl
-none-at (suc n) zero = refl
-none-at (suc n) (suc i) = none-at n i
-
-pub core_none-at : (xs : List ℤ) (i : ℕ) → slice_index_or (core_none_held xs) i None ≡ None
-core_none-at [] i = refl
-core_none-at (x ∷ xs) zero = refl
-core_none-at (x ∷ xs) (suc i) = core_none-at xs i
+use Rattle.aseba_codegen.proofs.CellLists.{set-alike, applied-at, applied_cells-at, applied-long, applied_cells-long, none-at, core_none-at}
+use Rattle.aseba_codegen.proofs.Placed.{heavier}
 
 -- the words of a statement that stores or sends
 abbrev pub straight_words : CoreForm → List ℕ
 straight_words (store target e) = store_code target e
 straight_words (send event address count) = emit_word event ∷ address ∷ count ∷ []
 straight_words _ = []
-
-abbrev pub heavier : Option ℕ → ℕ → ℕ
-heavier None weighs = 0
-heavier (Some more) weighs = weighs + more
 
 module _ (program : CoreProgram) (code : List Coded) (weight : ℕ) where
   -- What machine and core have in common at every moment: variables, bits, held values and flags.

@@ -74,14 +74,14 @@ native-long project id values =
     let back : List ℕ = flat_map (λ n. number_code (pos n)) (drop (param_count project id) values) in
     omega (arith, arguments-long (take (param_count project id) values), lengths-long (drop (param_count project id) values), length-append (front ++ back) (native_word id ∷ []), length-append front back)
 
-test-long : (line : ℕ) (is_edge : Bool) (c : Condition) (otherwise : ℕ) → length (test_code line is_edge c otherwise) ≡ length c.words + 2
+pub test-long : (line : ℕ) (is_edge : Bool) (c : Condition) (otherwise : ℕ) → length (test_code line is_edge c otherwise) ≡ length c.words + 2
 test-long line is_edge c otherwise = length-append (on_line line c.words) _ ∙ ap (λ n. n + 2) (on_line-long line c.words)
 
 tested-long : (line : ℕ) (is_edge : Bool) (c : CoreExpr) (otherwise : ℕ) (body : List Coded) → length (test_code line is_edge (condition_code c) otherwise ++ body) ≡ condition_words c + 2 + length body
 tested-long line is_edge c otherwise body =
     omega (arith, length-append (test_code line is_edge (condition_code c) otherwise) body, test-long line is_edge (condition_code c) otherwise, condition-long c)
 
-jumping-long : (project : Project) (line : ℕ) (by : ℤ) → length (on_line line (jump_code project by)) ≡ jump_words project
+pub jumping-long : (project : Project) (line : ℕ) (by : ℤ) → length (on_line line (jump_code project by)) ≡ jump_words project
 jumping-long project line by = on_line-long line (jump_code project by) ∙ jump-long project by
 
 if-long : (project : Project) (line : ℕ) (c : CoreExpr) (body : List Coded) (ss : CoreStmts) (other : List Coded) (n : ℕ) → length other ≡ n
@@ -126,7 +126,7 @@ parts-long project starts [] = refl
 parts-long project starts (part ∷ parts) =
     omega (arith, length-append (part_code project starts part) (parts_code project starts parts), part-long project starts part, parts-long project starts parts, sum_by-cons (core_part_words project) part parts)
 
-init-long : (project : Project) (starts : List ℕ) (core : Core) → length (init_code project starts core) ≡ core_list_words project core.init + 1
+pub init-long : (project : Project) (starts : List ℕ) (core : Core) → length (init_code project starts core) ≡ core_list_words project core.init + 1
 init-long project starts core =
     let site : Site = record { project = project; starts = starts; in_sub = false } in
     omega (arith, length-append (list_code site core.init) (on_line 1 (Rattle.aseba_codegen.specs.Words.last_word false ∷ [])), list-long site core.init)

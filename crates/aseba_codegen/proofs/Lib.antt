@@ -1,13 +1,45 @@
+mod Apart
+mod Bases
 pub mod Begin
 pub mod BitLaws
+mod Branches
+mod CellLists
+pub mod CodeLaw
+mod CodeRows
+mod Depth
+mod Edges
+mod EventTable
 mod Exprs
+mod FirstState
+mod Flow
 pub mod FormAnswers
+mod GoodEntries
+mod GoodLists
 mod Groups
+mod JumpRows
 pub mod Jumps
+pub mod LaidOut
+pub mod Layouts
 pub mod Lengths
+mod Monotone
+mod NativeCalls
+mod NativeNames
+mod NativeRuns
+mod NativeTicks
+mod NativeValues
+mod Outside
+mod PartOrder
+mod Placed
+mod PlacedLaws
 mod Placing
+mod Puts
 mod Reach
 pub mod Runs
+mod Scripts
+mod Shown
+mod Silences
+mod Standing
+mod Stores
 pub mod TextPlaces
 mod TickRows
 mod Values

@@ -1,13 +1,10 @@
 -- The code of straight statements is placed as their work asks for.
-use Rattle.std.proofs.Common.{◌≡◌, ℕ, ◌+◌, ◌≤◌, ◌⊎◌, inl, inr, ◌&&◌, not, max, Bool, true, false, if◌then◌else◌, nat_le, is_some, List, [], ◌∷◌, ◌++◌, length, slice_get, Option, Some, None, refl, sym, ap, ◌∙◌, subst, arith, true≢false, eqb-true, append_assoc, length-append, subst₂}
+use Rattle.std.proofs.Common.{◌≡◌, ℕ, ◌+◌, ◌≤◌, inl, inr, ◌&&◌, max, true, false, List, ◌++◌, length, Option, Some, None, refl, sym, ap, ◌∙◌, subst, arith, true≢false, eqb-true, length-append, subst₂}
 use Rattle.std.specs.Prelude.{option_to_list, nat_eq}
-use Rattle.aseba_tree.specs.Code.{Project}
-use Rattle.aseba_tree.specs.CoreExpr.{into, into_index}
-use Rattle.aseba_tree.specs.Core.{core_stmt, CoreForm, store, branch, on_edge, loop, send, enter, use_native, go_back, CoreStmts, no_core, core_stmts, Core}
+use Rattle.aseba_tree.specs.Core.{core_stmt, CoreForm, store, branch, on_edge, loop, send, enter, use_native, go_back, CoreStmts, no_core, core_stmts}
 use Rattle.aseba_tree.specs.CoreStep.{CoreTask, CoreProgram, core_tasks, core_whens, core_work_line}
 use Rattle.aseba_tree.specs.CoreNumbers.{core_form_depth, core_list_depth, kept_nodes, own_nodes, inner_weight, weight_behind, kept_with, core_list_weight}
-use Rattle.aseba_tree.specs.CoreShape.{kept_at, is_last, is_good_form, is_good_list}
-use Rattle.aseba_tree.specs.Numbers.{nodes}
+use Rattle.aseba_tree.specs.CoreShape.{kept_at, is_last, is_good_list}
 use Rattle.aseba_codegen.specs.declared.coded.Coded.{Coded}
 use Rattle.aseba_codegen.specs.Words.{Site, on_line, form_code, list_code}
 use Rattle.aseba_codegen.specs.Agrees.{is_straight_form, is_straight}
@@ -16,20 +13,9 @@ use Rattle.aseba_tree.specs.CoreLines.{first_line, is_kept_on, form_is_lined, li
 use Rattle.aseba_codegen.proofs.Reach.{Lined, Stands, stands-split, stands-lined}
 use Rattle.aseba_codegen.proofs.Values.{and-left, and-right}
 use Rattle.aseba_codegen.proofs.Lengths.{on_line-long}
-use Rattle.aseba_codegen.proofs.Groups.{straight_words, heavier, Fits, Placed}
-
--- a word stands where it was put
-got-at : (front : List Coded) (c : Coded) (back : List Coded) → slice_get (front ++ c ∷ back) (length front) ≡ Some c
-got-at [] c back = refl
-got-at (x ∷ front) c back = got-at front c back
-
-pub stands-at : (front xs back : List Coded) → Stands (front ++ (xs ++ back)) (length front) xs
-stands-at front [] back = tt
-stands-at front (x ∷ xs) back =
-    let more : List Coded = front ++ x ∷ [] in
-    let place : length more ≡ length front + 1 = length-append front (x ∷ []) in
-    let same : more ++ (xs ++ back) ≡ front ++ (x ∷ (xs ++ back)) = append_assoc front (x ∷ []) (xs ++ back) in
-    (got-at front x (xs ++ back), subst (λ code. Stands code (length front + 1) xs) same (subst (λ n. Stands (more ++ (xs ++ back)) n xs) place (stands-at more xs back)))
+use Rattle.aseba_codegen.proofs.GoodLists.{GoodFirst, good-first, goes-on, kept-case, weight-above}
+use Rattle.aseba_codegen.proofs.Groups.{straight_words, Fits, Placed}
+use Rattle.aseba_codegen.proofs.Placed.{heavier}
 
 -- the code of a statement that stores or sends
 straight-code : (site : Site) (line : ℕ) (form : CoreForm) → is_straight_form form ≡ true → form_code site line form ≡ on_line line (straight_words form)
@@ -42,33 +28,6 @@ straight-code site line (enter which) h = absurd (true≢false (sym h))
 straight-code site line (use_native id values) h = absurd (true≢false (sym h))
 straight-code site line go_back h = absurd (true≢false (sym h))
 
--- what a statement is: a store into a temporary, or none
-abbrev KeptCase : Core → ℕ → CoreForm → Type 0
-KeptCase core line form =
-    ((kept_at core form ≡ None) × (kept_nodes core.cells form ≡ None))
-    ⊎ ((a : ℕ) × (kept_at core form ≡ Some a) × (kept_nodes core.cells form ≡ Some (own_nodes form + 1)) × ((rest : CoreStmts) → is_kept_on core.cells line form rest ≡ nat_eq line (first_line line rest)))
-
-kept-case : (core : Core) (line : ℕ) (form : CoreForm) → KeptCase core line form
-kept-case core line (store (into a) e) = by_test (nat_le core.cells a)
-  where
-    by_test : (b : Bool)
-        → (((if b then Some a else None) ≡ None) × ((if b then Some (nodes e + 1) else None) ≡ None))
-        ⊎ ((x : ℕ) × ((if b then Some a else None) ≡ Some x) × ((if b then Some (nodes e + 1) else None) ≡ Some (0 + nodes e + 1)) × ((rest : CoreStmts) → (if b then nat_eq line (first_line line rest) else true) ≡ nat_eq line (first_line line rest)))
-    by_test true = let same : nodes e + 1 ≡ 0 + nodes e + 1 = omega arith in inr (a, refl, ap Some same, λ rest. refl)
-    by_test false = inl (refl, refl)
-kept-case core line (store (into_index base size i) e) = inl (refl, refl)
-kept-case core line (send event address count) = inl (refl, refl)
-kept-case core line (branch c body other) = inl (refl, refl)
-kept-case core line (on_edge c body) = inl (refl, refl)
-kept-case core line (loop c body) = inl (refl, refl)
-kept-case core line (enter which) = inl (refl, refl)
-kept-case core line (use_native id values) = inl (refl, refl)
-kept-case core line go_back = inl (refl, refl)
-
-not-last : (b : Bool) → not (b && true) ≡ true → b ≡ false
-not-last true h = absurd (true≢false (sym h))
-not-last false h = refl
-
 straight-depth : (subs : ℕ → ℕ) (form : CoreForm) → is_straight_form form ≡ true → core_form_depth subs form ≡ core_form_depth (λ which. 0) form
 straight-depth subs (store t e) h = refl
 straight-depth subs (send event address count) h = refl
@@ -78,47 +37,6 @@ straight-depth subs (loop c body) h = absurd (true≢false (sym h))
 straight-depth subs (enter which) h = absurd (true≢false (sym h))
 straight-depth subs (use_native id values) h = absurd (true≢false (sym h))
 straight-depth subs go_back h = absurd (true≢false (sym h))
-
-module _ (project : Project) (core : Core) where
-  -- the parts of what a list of statements has to be
-  pub record GoodFirst (kept : List ℕ) (form : CoreForm) (ss : CoreStmts) : Type 0 where
-    pub form_good : is_good_form project core kept form ≡ true
-    pub not_end : not (is_last ss && is_some (kept_at core form)) ≡ true
-    pub rest_good : is_good_list project core (option_to_list (kept_at core form) ++ kept) ss ≡ true
-
-  good-first : (kept : List ℕ) (line : ℕ) (form : CoreForm) (ss : CoreStmts) → is_good_list project core kept (core_stmts (core_stmt line form) ss) ≡ true → GoodFirst kept form ss
-  good-first kept line form ss h =
-      let a : Bool = is_good_form project core kept form in
-      let b : Bool = not (is_last ss && is_some (kept_at core form)) in
-      let c : Bool = is_good_list project core (option_to_list (kept_at core form) ++ kept) ss in
-      let front : (a && b) ≡ true = and-left (a && b) c h in
-      record { form_good = and-left a b front; not_end = and-right a b front; rest_good = and-right (a && b) c h }
-
-  -- behind a store into a temporary another statement stands
-  goes-on : (ss : CoreStmts) (form : CoreForm) (a : ℕ) → not (is_last ss && is_some (kept_at core form)) ≡ true → kept_at core form ≡ Some a → is_last ss ≡ false
-  goes-on ss form a h e = not-last (is_last ss) (subst (λ (o : Option ℕ). not (is_last ss && is_some o) ≡ true) e h)
-
-  -- what has been kept counts in the weight
-  pub weight-above : (ss : CoreStmts) (kept : List ℕ) (weighs : ℕ) → is_good_list project core kept ss ≡ true → is_last ss ≡ false → weighs + 3 ≤ core_list_weight core.cells ss weighs
-  weight-above no_core kept weighs good some = absurd (true≢false some)
-  weight-above (core_stmts (core_stmt line form) ss) kept weighs good some =
-      let parts : GoodFirst kept form ss = good-first kept line form ss good in
-      elim (kept-case core line form) [
-        | inl c ↦ rw (c.1) (omega arith)
-        | inr c ↦
-            let more : weighs + (own_nodes form + 1) + 3 ≤ core_list_weight core.cells ss (weighs + (own_nodes form + 1)) =
-            weight-above ss (option_to_list (kept_at core form) ++ kept) (weighs + (own_nodes form + 1)) parts.rest_good (goes-on ss form c.0 parts.not_end c.1) in
-            rw (c.2) (omega arith)
-      ]
-
-pub weight-least : (cells : ℕ) (ss : CoreStmts) (weighs : ℕ) → 3 ≤ core_list_weight cells ss weighs
-weight-least cells no_core weighs = omega arith
-weight-least cells (core_stmts (core_stmt line form) ss) weighs = by_kept (kept_nodes cells form) (weight-least cells ss)
-  where
-    by_kept : (o : Option ℕ) → ((w : ℕ) → 3 ≤ core_list_weight cells ss w)
-        → 3 ≤ max (max (weight_behind weighs o form) (inner_weight cells form)) (core_list_weight cells ss (kept_with weighs o))
-    by_kept None ih = omega arith
-    by_kept (Some more) ih = omega arith
 
 module _ (program : CoreProgram) (code : List Coded) (weight : ℕ) (site : Site) (limit : ℕ) (subs : ℕ → ℕ) (rest : List CoreTask) where
   -- the line of what follows a store into a temporary

@@ -1,5 +1,5 @@
 -- Ticks that have no effect: where words stand, and what is reached behind such ticks.
-use Rattle.std.proofs.Common.{◌≡◌, ℕ, zero, suc, ◌+◌, ◌<◌, ◌⊎◌, inl, inr, false, ℤ, pos, List, [], ◌∷◌, ◌++◌, length, map, slice_get, slice_index_or, Some, refl, sym, ap, ◌∙◌, subst, arith}
+use Rattle.std.proofs.Common.{◌≡◌, ℕ, zero, suc, ◌+◌, ◌<◌, ◌⊎◌, inl, inr, false, ℤ, pos, List, [], ◌∷◌, ◌++◌, length, map, slice_get, slice_index_or, Some, refl, sym, ap, ◌∙◌, subst, arith, append_assoc, length-append}
 use Rattle.std.proofs.lemmas.Option.{slice_get-map, get_or_from_slice_get}
 use Rattle.std.specs.Option.{option_map}
 use Rattle.aseba_vm.specs.declared.tick.Tick.{Tick}
@@ -25,6 +25,19 @@ Lined code line at (w ∷ ws) = (slice_get code at ≡ Some (record { word = w; 
 abbrev pub Stands : List Coded → ℕ → List Coded → Type 0
 Stands code at [] = Unit {0}
 Stands code at (c ∷ cs) = (slice_get code at ≡ Some c) × Stands code (at + 1) cs
+
+-- a word stands where it was put
+got-at : (front : List Coded) (c : Coded) (back : List Coded) → slice_get (front ++ c ∷ back) (length front) ≡ Some c
+got-at [] c back = refl
+got-at (x ∷ front) c back = got-at front c back
+
+pub stands-at : (front xs back : List Coded) → Stands (front ++ (xs ++ back)) (length front) xs
+stands-at front [] back = tt
+stands-at front (x ∷ xs) back =
+    let more : List Coded = front ++ x ∷ [] in
+    let place : length more ≡ length front + 1 = length-append front (x ∷ []) in
+    let same : more ++ (xs ++ back) ≡ front ++ (x ∷ (xs ++ back)) = append_assoc front (x ∷ []) (xs ++ back) in
+    (got-at front x (xs ++ back), subst (λ code. Stands code (length front + 1) xs) same (subst (λ n. Stands (more ++ (xs ++ back)) n xs) place (stands-at more xs back)))
 
 pub stands-split : (code : List Coded) (at : ℕ) (xs ys : List Coded) → Stands code at (xs ++ ys) → Stands code at xs × Stands code (at + length xs) ys
 stands-split code at [] ys h = let e : at ≡ at + 0 = omega arith in (tt, subst (λ n. Stands code n ys) e h)

@@ -35,11 +35,11 @@ pub record Ready (m : State) (word : ℕ) : Type 0 where
   pub unpaused : m.paused ≡ false
   pub at : slice_get m.code m.pc ≡ Some word
 
-opcode-read : (op : Opcode) (low : ℕ) → opcode_of (word_of op low) ≡ op
+pub opcode-read : (op : Opcode) (low : ℕ) → opcode_of (word_of op low) ≡ op
 opcode-read op low = opcode_of-word op (low % 4096) (omega arith)
 
 -- the next tick is this instruction
-row-tick : (m : State) (op : Opcode) (low : ℕ) → low < 4096 → Ready m (word_of op low)
+pub row-tick : (m : State) (op : Opcode) (low : ℕ) → low < 4096 → Ready m (word_of op low)
     → ticked m ≡ settled (row op (word_of op low) m).0 (row op (word_of op low) m).1
 row-tick m op low below ready =
     ticked-row m (word_of op low) ready.active ready.unpaused ready.at
@@ -55,18 +55,18 @@ no-call m op low below ready none project =
     (ap (opcode_call project (operand_of (word_of op low))) (opcode-read op low) ∙ none project (operand_of (word_of op low)))
 
 -- the low bits are read back
-low-of : (op : Opcode) (low : ℕ) → low < 4096 → operand_of (word_of op low) ≡ low
+pub low-of : (op : Opcode) (low : ℕ) → low < 4096 → operand_of (word_of op low) ≡ low
 low-of op low below = let same : low % 4096 ≡ low = omega arith in operand_of-word (opcode_number op) (low % 4096) (omega arith) ∙ same
 
 -- a number from -2048 to 2047 is read back from twelve bits
-small-is : (v : ℤ) → (int_lt v (negsuc 2047) || int_lt (pos 2047) v) ≡ false → twelve_bits v < 4096
+pub small-is : (v : ℤ) → (int_lt v (negsuc 2047) || int_lt (pos 2047) v) ≡ false → twelve_bits v < 4096
 small-is (pos n) h = let below : n ≤ 2047 = leb-true-of n h in omega arith
   where
     leb-true-of : (n : ℕ) → int_lt (pos 2047) (pos n) ≡ false → n ≤ 2047
     leb-true-of n h = grind (arith, ltb-false)
 small-is (negsuc n) h = omega arith
 
-small-below : (v : ℤ) → (int_lt v (negsuc 2047) || int_lt (pos 2047) v) ≡ false → (if nat_lt (twelve_bits v) 2048 then pos (twelve_bits v) else pos (twelve_bits v) -ℤ pos 4096) ≡ v
+pub small-below : (v : ℤ) → (int_lt v (negsuc 2047) || int_lt (pos 2047) v) ≡ false → (if nat_lt (twelve_bits v) 2048 then pos (twelve_bits v) else pos (twelve_bits v) -ℤ pos 4096) ≡ v
 small-below (pos n) h = grind arith
 small-below (negsuc n) h = grind arith
 

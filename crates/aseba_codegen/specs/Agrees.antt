@@ -1,10 +1,10 @@
 -- How a machine that runs the code of a core stands to the core.
-use Rattle.std.specs.Prelude.{◌≡◌, ℕ, ◌<◌, ◌≤◌, Bool, true, false, ◌&&◌, if◌then◌else◌, IsTrue, List, [], ◌∷◌, map, length, take, sum_by, All, slice_index}
+use Rattle.std.specs.Prelude.{◌≡◌, ℕ, ◌<◌, ◌≤◌, Bool, true, false, ◌&&◌, IsTrue, List, [], map, length, take, sum_by, All, slice_index}
 use Rattle.aseba_tree.specs.Code.{Project}
 use Rattle.aseba_tree.specs.Line.{line_by}
 use Rattle.aseba_tree.specs.Script.{Script}
-use Rattle.aseba_tree.specs.Core.{CoreStmt, core_stmt, CoreForm, store, send, CoreStmts, no_core, core_stmts, Core}
-use Rattle.aseba_tree.specs.CoreNumbers.{core_weight}
+use Rattle.aseba_tree.specs.Core.{core_stmt, CoreForm, store, send, CoreStmts, no_core, core_stmts, Core}
+use Rattle.aseba_tree.specs.CoreNumbers.{core_words, core_depth, core_weight}
 use Rattle.aseba_tree.specs.CoreShape.{IsCore}
 use Rattle.aseba_tree.specs.CoreStep.{CoreProgram, CoreState, core_next_line}
 use Rattle.aseba_tree.specs.CoreRun.{own_places, core_run, core_lines, core_moments}
@@ -24,7 +24,15 @@ pub record IsNode (project : Project) : Type 0 where
   pub cells : project.node.cells ≤ 4096
   pub id : project.id < 65536
   pub events : length project.events ≤ 4096
+  pub natives : length project.node.natives ≤ 4096
   pub sizes : All (λ v. 1 ≤ v.size) project.node.variables
+
+-- A core whose own words and stack cells its node has.
+pub record HasRoom (project : Project) (core : Core) : Type 0 where
+  pub node : IsNode project
+  pub shape : IsCore project core
+  pub words : core_words project core ≤ project.node.code
+  pub deep : core_depth core ≤ project.node.stack
 
 -- statements that only store and send
 abbrev pub is_straight_form : CoreForm → Bool

@@ -1,5 +1,7 @@
 pub mod Agrees
+pub mod CodeRuns
 pub mod Generated
 pub mod Places
 pub mod PlacesByText
 pub mod Words
+pub mod WorkedCode

@@ -1,5 +1,5 @@
 -- The plain code of a core: its words, each with the line of the effect that is next from there.
-use Rattle.std.specs.Prelude.{ℕ, ◌+◌, ◌-◌, ◌*◌, ◌%◌, Bool, true, false, not, ◌||◌, if◌then◌else◌, ℤ, pos, negsuc, neg_ℤ, ◌-ℤ◌, int_lt, List, [], ◌∷◌, ◌++◌, length, map, take, drop, sum_by, filter, flat_map, Option, Some, None, slice_index}
+use Rattle.std.specs.Prelude.{ℕ, ◌+◌, ◌-◌, ◌%◌, Bool, true, false, not, ◌||◌, if◌then◌else◌, ℤ, pos, negsuc, neg_ℤ, ◌-ℤ◌, int_lt, List, [], ◌∷◌, ◌++◌, length, map, take, drop, sum_by, flat_map, Option, Some, None, slice_index}
 use Rattle.aseba_words.specs.declared.operators.Binary.{Binary}
 use Rattle.aseba_words.specs.declared.operators.Binary.TheVariants.{Differ}
 use Rattle.aseba_tree.specs.Code.{Project}
@@ -9,7 +9,7 @@ use Rattle.aseba_tree.specs.Core.{CoreStmt, core_stmt, CoreForm, store, branch, 
 use Rattle.aseba_tree.specs.CoreShape.{is_last}
 use Rattle.aseba_tree.specs.Sizes.{is_of_one_cell}
 use Rattle.aseba_tree.specs.Numbers.{is_large, jump_words}
-use Rattle.aseba_tree.specs.CoreNumbers.{param_count, is_handler, core_list_words, core_part_words, core_table_words, core_starts_from}
+use Rattle.aseba_tree.specs.CoreNumbers.{param_count, is_handler, core_handlers, core_subs, core_list_words, core_part_words, core_table_words, core_starts_from}
 use Rattle.aseba_vm.specs.Words.{end_word, sub_return_word, large_number_word, small_number_word, load_word, load_indirect_word, store_word, store_indirect_word, unary_word, binary_word, jump_word, branch_word, emit_word, native_word, sub_call_word}
 
 -- words of one line that stay as they are
@@ -142,7 +142,7 @@ init_code project starts core = body_code (site_of project starts false) 1 core.
 
 -- Where the code stands. In a large project the subroutines stand before the init code, else all parts stand behind it.
 abbrev pub init_start : Project → Core → ℕ
-init_start project core = core_table_words core + (if is_large project then sum_by (core_part_words project) (filter is_sub core.parts) else 0)
+init_start project core = core_table_words core + (if is_large project then sum_by (core_part_words project) (core_subs core) else 0)
 
 -- the addresses of parts, of which the subroutines follow each other from one address on and the handlers from another
 abbrev pub starts_apart : Project → ℕ → ℕ → List CorePart → List ℕ
@@ -181,7 +181,7 @@ parts_code project starts parts = flat_map (part_code project starts) parts
 abbrev pub bodies_code : Project → List ℕ → Core → List Coded
 bodies_code project starts core =
     let init = init_code project starts core in
-    if is_large project then parts_code project starts (filter is_sub core.parts) ++ init ++ parts_code project starts (filter is_handler core.parts)
+    if is_large project then parts_code project starts (core_subs core) ++ init ++ parts_code project starts (core_handlers core)
     else init ++ parts_code project starts core.parts
 
 -- the code of a core for a project
