@@ -1,0 +1,12 @@
+pub mod Arguments
+pub mod Constants
+pub mod Expanded
+pub mod Expands
+pub mod Listed
+pub mod Literals
+pub mod Made
+pub mod Plain
+pub mod Rooms
+pub mod Rows
+pub mod Scope
+pub mod Tables
