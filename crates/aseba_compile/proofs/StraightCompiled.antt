@@ -7,7 +7,7 @@ use Rattle.aseba_tree.specs.declared.description.Sized as code
 use Rattle.aseba_tree.specs.declared.project.Project.{Project}
 use Rattle.aseba_tree.specs.Code.{Sized}
 use Rattle.aseba_tree.specs.Inside.{InsideProject, InsideSized}
-use Rattle.aseba_tree.specs.View.{sized_view, project_view}
+use Rattle.aseba_tree.specs.View.{sized_view, native_view, project_view}
 use Rattle.aseba_tree.specs.State.{Program}
 use Rattle.aseba_tree.specs.Core as tree
 use Rattle.aseba_tree.specs.CoreShape.{IsCore}
@@ -33,6 +33,7 @@ node-inside project inside id = record {
   cells = inside.node.cells.1;
   id = id;
   events = (let most = inside.events.few in let long = length-map project.events sized_view in omega arith);
+  natives = (let most = inside.node.natives.few in let long = length-map project.node.natives native_view in omega arith);
   sizes = sizes-inside project.node.variables inside.node.variables.each.each;
 }
 

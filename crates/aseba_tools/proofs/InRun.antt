@@ -1,7 +1,7 @@
 -- A run in the middle: what it has told was written, and what is left to do leads to the same end.
 use Rattle.std.proofs.Common.{◌≡◌, Bool, true, false, ℕ, suc, ◌+◌, ◌-◌, ◌≤◌, ◌<◌, List, [], ◌++◌, Option, refl, ap, sym, ◌∙◌, subst, append_assoc, append-nil, arith}
 use Rattle.aseba_edge.specs.Sink.{Took, TookFirst}
-use Rattle.aseba_edge.proofs.Puts.{first_of_more}
+use Rattle.aseba_edge.proofs.Puts.{first_of_more, took_empty, took_after, first_after}
 use Rattle.aseba_tree.specs.Code.{Project}
 use Rattle.aseba_tree.specs.Line.{Line}
 use Rattle.aseba_tree.specs.Run.{System, Run, begin, counted, ticks, tick_lines, all_ticking, lines_from}
@@ -11,7 +11,7 @@ use Rattle.aseba_target.specs.MachineRun.{is_effect}
 use Rattle.aseba_compile.specs.declared.program.Program.{Program}
 use Rattle.aseba_tools.specs.SimText.{layout_with, system_of, at_moment, after_tick, after_ticks, tick_text, ticks_text, told_text, IsAt}
 use Rattle.aseba_tools.specs.declared.lines.Moment.{Moment}
-use Rattle.aseba_tools.proofs.Writing.{told_text-append, took_empty, took_after, first_after}
+use Rattle.aseba_tools.proofs.Writing.{told_text-append}
 
 -- After some of the ticks, with so many left: some lines were written, with those of the ticks that are left they are all, and these ticks end the run.
 pub record InRun (project : Project) (program : Program) (first : State) (before : Option (List ℕ)) (n done : ℕ) (moment : Moment) (machine : State) (taken : Option (List ℕ)) : Type 0 where

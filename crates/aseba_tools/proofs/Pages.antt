@@ -2,7 +2,7 @@
 use Rattle.std.proofs.Common.{◌≡◌, ℕ, List, ◌++◌, Option, ap, sym, ◌∙◌, subst, append_assoc}
 use Rattle.aseba_edge.specs.Sink.{TookFirst}
 use Rattle.aseba_tools.specs.Page.{Gathered}
-use Rattle.aseba_tools.proofs.Writing.{took_after, first_after}
+use Rattle.aseba_edge.proofs.Puts.{took_after, first_after}
 
 -- more text comes behind a text that was gathered
 module _ {before mid : Option (List ℕ)} {page text page' : List ℕ} (g : Gathered before page text mid page') (more : List ℕ) where

@@ -1,12 +1,12 @@
 -- The lines of variables, one after the other.
 use Rattle.std.proofs.Common.{◌≡◌, ℕ, suc, ◌+◌, ◌<◌, ℤ, List, [], ◌∷◌, ◌++◌, length, get_or, drop, map, Option, ap, sym, ◌∙◌, subst, append_assoc, add-one, drop-cons}
 use Rattle.aseba_edge.specs.Sink.{Took, TookFirst}
-use Rattle.aseba_edge.proofs.Puts.{first_of_more}
+use Rattle.aseba_edge.proofs.Puts.{first_of_more, took_after, first_after}
 use Rattle.aseba_tree.specs.Line.{lines_text}
 use Rattle.aseba_tools.specs.SimText.{var_lines}
 use Rattle.aseba_tree.specs.declared.placed.Placed.{Placed}
 use Rattle.aseba_tree.specs.View.{placed_view}
-use Rattle.aseba_tools.proofs.Writing.{lines_text-append, took_after, first_after}
+use Rattle.aseba_tools.proofs.Writing.{lines_text-append}
 
 -- the text of the variables from a place on
 abbrev pub rest_text : List ℤ → List Placed → ℕ → List ℕ

@@ -1,9 +1,9 @@
 -- What a status says of a call of `dump`: why it came, and what was written.
 use Rattle.std.specs.Prelude.{ℕ, ◌≡◌, ◌⊎◌, List, Option}
 use Rattle.aseba_edge.specs.Sink.{Took, TookFirst}
+use Rattle.aseba_message.specs.Cut.{IsBadAt, IsGoodStream}
 use Rattle.aseba_tools.specs.FileText.{IsFileText, NotRead, most_dumped}
 use Rattle.aseba_tools.specs.DumpText.{raw_dump_text}
-use Rattle.aseba_tools.specs.StreamEnd.{IsGoodStream, IsBadAt}
 use Rattle.aseba_tools.specs.declared.status.Status.{Status}
 use Rattle.aseba_tools.specs.declared.status.Status.TheVariants.{Done, WriteFault, Memory, BadFrame}
 

@@ -29,7 +29,7 @@ impl From<Mem> for Unwritten {
 }
 
 /// Puts a text.
-#[tactic(auto, using(crate::proofs::Writing::put_steps))]
+#[tactic(auto, using(aseba_edge::proofs::Puts::put_steps))]
 pub fn put_text<S: Sink>(out: &mut S, text: &Text) -> Result<(), Unwritten>
     ensures whole { OnOk result (Took (S.taken out.old) text.now (S.taken out.new)) }
     ensures part { OnErr result (TookFirst (S.taken out.old) text.now (S.taken out.new)) }

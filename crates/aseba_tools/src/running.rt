@@ -71,7 +71,7 @@ fn tick<S: Sink>(
 }
 
 /// Does ticks from the first on, and writes their lines.
-#[tactic(auto, using(crate::proofs::Writing::put_steps))]
+#[tactic(auto, using(aseba_edge::proofs::Puts::put_steps))]
 fn run_ticks<S: Sink>(
     alloc: Global,
     machine: &mut Machine,
@@ -130,7 +130,7 @@ fn put_ending<S: Sink>(
 }
 
 /// Writes the last line.
-#[tactic(auto, using(crate::proofs::Writing::put_steps))]
+#[tactic(auto, using(aseba_edge::proofs::Puts::put_steps))]
 fn put_end<S: Sink>(alloc: Global, end: Moment, out: &mut S) -> Result<(), Unwritten>
     ensures whole { OnOk result (Took (S.taken out.old) (end_text end) (S.taken out.new)) }
     ensures part { OnErr result (TookFirst (S.taken out.old) (end_text end) (S.taken out.new)) }
@@ -141,7 +141,7 @@ fn put_end<S: Sink>(alloc: Global, end: Moment, out: &mut S) -> Result<(), Unwri
 }
 
 /// Writes the line of the words.
-#[tactic(auto, using(crate::proofs::Writing::put_steps))]
+#[tactic(auto, using(aseba_edge::proofs::Puts::put_steps))]
 fn put_code<S: Sink>(alloc: Global, words: &[u16], out: &mut S) -> Result<(), Unwritten>
     ensures whole { OnOk result (Took (S.taken out.old) (code_line words.now) (S.taken out.new)) }
     ensures part { OnErr result (TookFirst (S.taken out.old) (code_line words.now) (S.taken out.new)) }

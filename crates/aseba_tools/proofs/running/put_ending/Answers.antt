@@ -1,6 +1,6 @@
 use Rattle.std.proofs.Common.{refl}
 use Rattle.std.proofs.lemmas.Result.{on_err_weaker}
-use Rattle.aseba_tools.proofs.Writing.{cut_in_second}
+use Rattle.aseba_edge.proofs.Puts.{cut_in_second}
 use Rattle.aseba_tools.proofs.running.put_ending.Goals as goal
 
 pub returns-clause-part : goal.returns-clause-part

@@ -1,6 +1,7 @@
 use Rattle.aseba_tree.specs.View.{project_view}
 use Rattle.std.proofs.lemmas.Result.{on_ok_weaker, on_err_weaker}
-use Rattle.aseba_tools.proofs.Writing.{on_err, cut_in_first, cut_in_second, both_taken}
+use Rattle.aseba_tools.proofs.Writing.{on_err}
+use Rattle.aseba_edge.proofs.Puts.{cut_in_first, cut_in_second, both_taken}
 use Rattle.aseba_tools.proofs.RunParts.{run_parts, run_begins}
 use Rattle.aseba_tools.proofs.running.put_run.Goals as goal
 

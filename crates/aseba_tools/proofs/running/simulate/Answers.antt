@@ -1,6 +1,7 @@
 use Rattle.std.proofs.Common.{refl}
 use Rattle.std.proofs.lemmas.Result.{on_ok_weaker, on_err_weaker}
-use Rattle.aseba_tools.proofs.Writing.{on_err, cut_in_first, cut_in_second, both_taken}
+use Rattle.aseba_tools.proofs.Writing.{on_err}
+use Rattle.aseba_edge.proofs.Puts.{cut_in_first, cut_in_second, both_taken}
 use Rattle.aseba_tools.proofs.running.simulate.Goals as goal
 
 pub returns-in_err-put_code-clause-part : goal.returns-in_err-put_code-clause-part
