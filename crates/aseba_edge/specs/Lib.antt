@@ -4,8 +4,10 @@ pub mod Dialer
 pub mod Files
 pub mod Gate
 pub mod Link
+pub mod Listener
 pub mod MemoryDialer
 pub mod MemoryFiles
+pub mod MemoryListener
 pub mod MemorySink
 pub mod Plan
 pub mod PollTape

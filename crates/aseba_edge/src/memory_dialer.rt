@@ -44,7 +44,7 @@ fn prepare(alloc: Global, dials: &mut Vec<Dial>, address: &str) -> Result<Name, 
 }
 
 /// The link that is given next, none where the dial is to fail.
-fn next_link<L>(links: &mut Vec<L>, fails: bool) -> Option<L>
+pub(crate) fn next_link<L>(links: &mut Vec<L>, fails: bool) -> Option<L>
     ensures given { links.old.items ≡ links.new.items ++ option_to_list result }
     ensures some { is_some result ≡ (not fails && nat_lt 0 (vec_len links.old)) }
     ensures due { result ≡ due fails (reverse links.old.items) }

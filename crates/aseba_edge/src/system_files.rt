@@ -3,6 +3,7 @@ ghost use Rattle.std.specs.IoError.{error_kind};
 ghost use Rattle.aseba_edge.specs.Files.{Answers, IsWithin, is_absent, is_failed};
 
 use crate::files::{FileAnswer, Files};
+use crate::reading::read_once;
 use aseba_words::{List, Mem};
 use std::alloc::Global;
 use std::io::{ErrorKind, Read};
@@ -86,10 +87,7 @@ pub fn read_to_limit<I: Read>(alloc: Global, input: &mut I, limit: u64) -> io::R
     let mut bytes = Vec::new(alloc);
     let mut piece = [0u8; 4096];
     for _ in 0..u64::MAX {
-        let count = match input.read(&mut piece) {
-            Err(error) if error.kind() == ErrorKind::Interrupted => continue,
-            answer => answer?,
-        };
+        let count = read_once(input, &mut piece)?;
         if count == 0 {
             return Ok(FileAnswer::Bytes(List::from_vec(bytes)));
         }

@@ -44,7 +44,7 @@ fn write_some<W: Write>(writer: &mut W, piece: &[u8]) -> Option<usize>
 /// Writes until all is written, the writer fails or it takes nothing, and answers how many bytes
 /// were taken.
 #[tactic(auto, using(crate::proofs::Written::write_more, crate::proofs::Written::write_none, crate::proofs::Written::write_nothing))]
-fn write_on<W: Write>(writer: &mut W, piece: &[u8]) -> usize
+pub(crate) fn write_on<W: Write>(writer: &mut W, piece: &[u8]) -> usize
     ensures within { result ≤ length piece.now }
     ensures written { Appends (W.contents writer.old) (W.contents writer.new)
         (take result piece.now) }

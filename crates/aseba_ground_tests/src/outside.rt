@@ -8,6 +8,7 @@ ghost use Rattle.aseba_ground_tests.specs.declared.outside.Trouble.TheVariants.{
 mod links;
 mod memory;
 mod system;
+mod tcp;
 
 use aseba_edge::{FileAnswer, Files, LinkIn, PutFault, Sink};
 use aseba_words::List;

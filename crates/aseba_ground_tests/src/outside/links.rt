@@ -1,8 +1,9 @@
 //! Links in memory, and the dialers.
 use crate::outside::read_all;
 use aseba_edge::{
-    DialFault, Dialer, LinkIn, LinkOut, LinkPoll, LinkScript, MemoryDialer, MemoryLink,
-    MemoryPolledLink, NoDialer, PollAnswer, Polled, PutFault,
+    Accepted, DialFault, Dialer, LinkIn, LinkOut, LinkPoll, LinkScript, ListenFault, Listener,
+    MemoryDialer, MemoryLink, MemoryListener, MemoryPolledLink, NoDialer, PollAnswer, Polled,
+    PutFault,
 };
 use aseba_words::{List, Mem};
 use std::alloc::Global;
@@ -147,5 +148,31 @@ fn a_dialer_in_memory_gives_its_links_in_order(rt: HostRuntime) -> Result<(), Fa
     assert_eq!(rt; input.mark(), 7);
     assert!(rt; matches!(dialer.dial(alloc, "h:4"), Err(DialFault::Refused)));
     assert!(rt; dialer.dial_polled(alloc, "h:5").is_ok());
+    Ok(())
+}
+
+#[test]
+fn a_listener_in_memory_gives_its_links_and_takes_them_back(rt: HostRuntime) -> Result<(), Fail> {
+    let alloc = rt.alloc();
+    let mut links = List::new(alloc);
+    for mark in [4, 7] {
+        links.push(link_of(alloc, mark, None)?).map_err(|_| Mem)?;
+    }
+    let mut listener = MemoryListener::new(alloc, links, List::from_slice(alloc, &[1, 4])?);
+    assert_eq!(rt; listener.open(80), Err(ListenFault));
+    assert_eq!(rt; listener.open(81), Ok(()));
+    let Accepted::Link(input, mut output) = listener.accept(alloc) else {
+        return Err(Fail::new("link"));
+    };
+    assert_eq!(rt; input.mark(), 4);
+    assert!(rt; matches!(listener.accept(alloc), Accepted::Failed));
+    assert_eq!(rt; listener.faults(), 2);
+    assert_eq!(rt; output.put(b"x"), Ok(()));
+    listener.back(input, output);
+    assert!(rt; matches!(listener.accept(alloc), Accepted::Link(_, _)));
+    assert!(rt; matches!(listener.accept(alloc), Accepted::NoMore));
+    assert_eq!(rt; listener.ports(), [81].as_slice());
+    assert_eq!(rt; listener.returned().len(), 1);
+    assert_eq!(rt; listener.returned()[0].output.bytes(), b"x".as_slice());
     Ok(())
 }
