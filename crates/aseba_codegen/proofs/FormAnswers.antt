@@ -1,30 +1,15 @@
 -- The code of a statement where its parts are known under other names.
-use Rattle.std.proofs.Common.{◌≡◌, ◌∙◌, ℕ, Bool, not, List, map, ◌++◌, refl, sym, ap, subst, Result, OnOk}
-use mathlib.Core.Path.{fun_ext}
+use Rattle.std.proofs.Common.{◌≡◌, ◌∙◌, ℕ, Bool, not, List, ◌++◌, refl, sym, ap, subst, Result, OnOk}
 use Rattle.aseba_tree.specs.Core as core_tree
 use Rattle.aseba_tree.specs.CoreShape.{is_last}
-use Rattle.aseba_tree.specs.View.{core_expr_view, core_form_view, core_stmt_view, core_stmts_of, core_stmts_view, core_form_step, core_stmt_step}
+use Rattle.aseba_tree.specs.View.{core_expr_view, core_form_view, core_stmts_view}
 use Rattle.aseba_tree.specs.declared.core_tree.CoreExpr.{CoreExpr}
 use Rattle.aseba_tree.specs.declared.core_tree.CoreStmt.{CoreStmt}
 use Rattle.aseba_tree.specs.declared.core_tree.CoreForm.{CoreForm}
-use Rattle.aseba_tree.specs.declared.core_tree.CoreForm.TheVariants.{If, While, rolls-If, rolls-While}
-use Rattle.aseba_tree.specs.declared.core_tree.CoreForm.TheOpen.{CoreForm-F}
-use Rattle.aseba_tree.specs.declared.core_tree.CoreForm.TheFolds.{fold-CoreStmt, fold-roll-CoreForm, fold_out-CoreStmt}
+use Rattle.aseba_tree.specs.declared.core_tree.CoreForm.TheVariants.{If, While}
 use Rattle.aseba_codegen.specs.declared.coded.Coded.{Coded}
 use Rattle.aseba_codegen.specs.Words.{Site, condition_code, if_code, loop_code, list_code, form_code}
-
-folded : (s : CoreStmt) → fold-CoreStmt core_tree.CoreForm core_tree.CoreStmt core_form_step core_stmt_step s ≡ core_stmt_view s
-folded s = fold_out-CoreStmt core_tree.CoreForm core_tree.CoreStmt core_form_step core_stmt_step s
-
-if-view : (c : CoreExpr) (t o : List CoreStmt) → core_form_view (If c t o) ≡ core_tree.branch (core_expr_view c) (core_stmts_view t) (core_stmts_view o)
-if-view c t o =
-    ap core_form_view (sym (rolls-If c t o))
-    ∙ (fold-roll-CoreForm core_tree.CoreForm core_tree.CoreStmt core_form_step core_stmt_step (CoreForm-F.If c t o) ∙ ap (λ (f : CoreStmt → core_tree.CoreStmt). core_tree.branch (core_expr_view c) (core_stmts_of (map f t)) (core_stmts_of (map f o))) (fun_ext folded))
-
-loop-view : (c : CoreExpr) (body : List CoreStmt) → core_form_view (While c body) ≡ core_tree.loop (core_expr_view c) (core_stmts_view body)
-loop-view c body =
-    ap core_form_view (sym (rolls-While c body))
-    ∙ (fold-roll-CoreForm core_tree.CoreForm core_tree.CoreStmt core_form_step core_stmt_step (CoreForm-F.While c body) ∙ ap (λ (f : CoreStmt → core_tree.CoreStmt). core_tree.loop (core_expr_view c) (core_stmts_of (map f body))) (fun_ext folded))
+use Rattle.aseba_codegen.proofs.FormViews.{if-view, loop-view}
 
 pub if-form : {A E : Type 0} (r : Result A E) (new old : List Coded) (site : Site) (line : ℕ) (form : CoreForm) (test : CoreExpr) (body other : List CoreStmt) (t : CoreExpr) (b : List Coded) (x : Bool) (o : List Coded)
     → form ≡ If test body other → t ≡ test → b ≡ list_code site (core_stmts_view body) → x ≡ not (is_last (core_stmts_view other)) → o ≡ list_code site (core_stmts_view other)

@@ -7,12 +7,14 @@ mod CellLists
 pub mod CodeLaw
 mod CodeRows
 mod Depth
+mod DepthLaws
 mod Edges
 mod EventTable
 mod Exprs
 mod FirstState
 mod Flow
 pub mod FormAnswers
+mod FormViews
 mod GoodEntries
 mod GoodLists
 mod Groups

@@ -10,7 +10,8 @@ use crate::code::{add_words, is_large_project};
 use crate::coded::Coded;
 use crate::error::GenError;
 use crate::parts::{add_body, add_handlers, add_parts, add_subs, entries_of};
-use crate::starts::{len_of, starts_from, starts_of_kinds, subs_len};
+use crate::stack::own_depth;
+use crate::starts::{len_of, own_words, starts_from, starts_of_kinds, subs_len};
 use aseba_tree::{Core, Project};
 use aseba_words::{List, Mem};
 use std::alloc::Global;
@@ -150,8 +151,9 @@ fn lines_of(alloc: Global, code: &[Coded]) -> Result<List<u32>, Mem>
     Ok(lines)
 }
 
-/// The code of a core for a project's node. The errors tell what the core needs and the node
-/// doesn't have.
+/// The code of a core for a project's node. It is refused only where its own words or stack cells
+/// are more than the node has; the errors tell what the core needs by its numbers, which then are
+/// more too.
 pub fn generate(alloc: Global, core: &Core, project: &Project) -> Result<Image, GenError>
     requires inside { InsideProject project.now }
     requires core { IsCore (project_view project.now) (core_view core.now) }
@@ -159,14 +161,14 @@ pub fn generate(alloc: Global, core: &Core, project: &Project) -> Result<Image, 
     ensures full { IfErr result (λ error. TellsNeed (project_view project.now) (core_view core.now) error) }
 {
     let have = u64::from(project.node.code);
-    if core.size > have {
+    if core.size > have && own_words(alloc, project, core)? > have {
         return Err(GenError::CodeFull {
             need: core.size,
             have,
         });
     }
     let have = u64::from(project.node.stack);
-    if core.depth > have {
+    if core.depth > have && own_depth(alloc, core, have + 1)? > have {
         return Err(GenError::StackFull {
             need: core.depth,
             have,

@@ -15,6 +15,7 @@ mod coded;
 mod error;
 mod image;
 mod parts;
+mod stack;
 mod starts;
 mod statements;
 mod words;

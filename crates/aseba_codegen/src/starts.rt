@@ -1,21 +1,43 @@
 ghost use Rattle.std.specs.Prelude.{◌≡◌, ◌+◌, ◌≤◌, map, filter, sum_by, ◌++◌, IfOk, OnOk};
 ghost use Rattle.aseba_codegen.specs.Words.{is_sub, starts_apart};
-ghost use Rattle.aseba_tree.specs.CoreNumbers.{core_list_words, core_part_words, core_starts_from};
-ghost use Rattle.aseba_tree.specs.View.{core_stmts_view, core_part_view, project_view};
+ghost use Rattle.aseba_tree.specs.CoreNumbers.{core_list_words, core_part_words, core_starts_from, core_words};
+ghost use Rattle.aseba_tree.specs.View.{core_stmts_view, core_part_view, core_view, project_view};
 
 use crate::statements::list_of;
-use aseba_tree::{CorePart, CoreStmt, Project};
+use aseba_tree::{Core, CorePart, CoreStmt, Project};
 use aseba_words::{List, Mem};
 use std::alloc::Global;
 
-/// How many words statements take.
+/// How many words statements take, whatever they are.
 #[tactic(auto, using(crate::proofs::Lengths::lengths))]
+fn words_in(alloc: Global, project: &Project, body: &List<CoreStmt>) -> Result<u64, Mem>
+    ensures { IfOk result (λ n. n ≡ core_list_words (project_view project.now) (core_stmts_view body.now)) }
+{
+    let code = list_of(alloc, project, &[], false, body)?;
+    Ok(code.as_slice().len() as u64)
+}
+
+/// How many words statements take.
 pub fn len_of(alloc: Global, project: &Project, body: &List<CoreStmt>) -> Result<u32, Mem>
     requires { core_list_words (project_view project.now) (core_stmts_view body.now) ≤ 65535 }
     ensures { IfOk result (λ n. n ≡ core_list_words (project_view project.now) (core_stmts_view body.now)) }
 {
-    let code = list_of(alloc, project, &[], false, body)?;
-    Ok(code.as_slice().len() as u32)
+    Ok(words_in(alloc, project, body)? as u32)
+}
+
+/// How many words a core's own code takes.
+pub fn own_words(alloc: Global, project: &Project, core: &Core) -> Result<u64, Mem>
+    requires { core_words (project_view project.now) (core_view core.now) ≤ 18446744073709551615 }
+    ensures { IfOk result (λ n. n ≡ core_words (project_view project.now) (core_view core.now)) }
+{
+    let mut words = words_in(alloc, project, &core.init)? + 4;
+    for part in core.parts.as_slice() {
+        if part.event.is_some() {
+            words += 2;
+        }
+        words += words_in(alloc, project, &part.body)? + 1;
+    }
+    Ok(words)
 }
 
 /// How many words a part takes with its last one.
