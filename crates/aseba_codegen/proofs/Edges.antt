@@ -295,7 +295,7 @@ module _ (project : Project) (core : Core) where
   init = init_code project addresses core
 
   -- the places of the code in its order are these of the text
-  text-order : IsPermutation (places_in 0 (core_code project core)) (edge_places project core)
+  pub text-order : IsPermutation (places_in 0 (core_code project core)) (edge_places project core)
   text-order = by_test (is_large project) refl
     where
       table : List Coded

@@ -8,7 +8,7 @@ pub mod CodeLaw
 mod CodeRows
 mod Depth
 mod DepthLaws
-mod Edges
+pub mod Edges
 mod EventTable
 mod Exprs
 mod FirstState
@@ -35,7 +35,7 @@ mod Placed
 mod PlacedLaws
 mod Placing
 mod Puts
-mod Reach
+pub mod Reach
 pub mod Runs
 mod Scripts
 mod Shown

@@ -1,12 +1,6 @@
+pub mod Answered
 pub mod Checking
+pub mod Coding
 pub mod Compiled
-pub mod CoreOf
-pub mod Meaning
 pub mod Reading
 pub mod Refused
-pub mod Standing
-pub mod Straight
-pub mod StraightAnswer
-pub mod StraightRead
-pub mod StraightRun
-pub mod StraightWords

@@ -1,14 +1,11 @@
-//! The chain of passes from the text of a source to its words. So far it compiles only sources
-//! without branches, loops, handlers and subroutines.
+//! The chain of passes from the text of a source to its words.
 #![tactic(auto)]
 
 mod passes;
 mod program;
 mod reading;
 mod refusal;
-mod straight;
 
 pub use passes::compile;
 pub use program::Program;
 pub use refusal::Refusal;
-pub use straight::straight_words_run;

@@ -3,20 +3,27 @@ ghost use Rattle.aseba_tree.specs.Inside.{InsideProject};
 ghost use Rattle.aseba_tree.specs.Shape.{IsTree};
 ghost use Rattle.aseba_tree.specs.View.{project_view, source_view};
 ghost use Rattle.aseba_check.specs.Accepted.{IsChecked};
+ghost use Rattle.aseba_check.specs.CountedNumbers.{AreNumbers};
 ghost use Rattle.aseba_check.specs.Refused.{program_in};
-ghost use Rattle.aseba_compile.specs.Compiled.{IsCompiled, IsProgram, IsRefused};
+ghost use Rattle.aseba_expand.specs.Literals.{HasCellNumbers};
+ghost use Rattle.aseba_compile.specs.Answered.{IsCodeFor, IsCompiled, IsProgram, IsRefused};
 ghost use Rattle.aseba_compile.specs.Refused.{IsTreeRefused};
 
 use crate::program::Program;
 use crate::reading::read;
 use crate::refusal::Refusal;
-use crate::straight::straight_image;
-use aseba_check::{Checked, check, numbers};
+use aseba_check::{Checked, Numbers, check, numbers};
+use aseba_codegen::{GenError, Image, generate};
+use aseba_expand::expand_counted;
 use aseba_tree::{Project, Source};
 use std::alloc::Global;
 
-/// Compiles the text of a source for the node of a project. The refusal tells why there is none:
-/// where the text is no program, which rule it breaks, or what it needs and the node doesn't have.
+/// Compiles the text of a source for the node of a project. The words run as the source means, on
+/// each machine of the node that was reset over code which begins with them and for each script of
+/// good events and writes, up to the call of a native that the node's machine doesn't know. The
+/// refusal is that of the first pass that refuses: where the text is no program, which rule it
+/// breaks, or what it needs and the node doesn't have. Code that is more than eight times too long
+/// is refused before anything is made of the tree.
 pub fn compile(alloc: Global, text: &[u8], project: &Project) -> Result<Program, Refusal>
     requires inside { InsideProject project.now }
     requires short { length text.now < 4294967295 }
@@ -31,6 +38,7 @@ pub fn compile(alloc: Global, text: &[u8], project: &Project) -> Result<Program,
 fn compile_tree(alloc: Global, project: &Project, source: Source) -> Result<Program, Refusal>
     requires inside { InsideProject project.now }
     requires is_tree { IsTree (source_view source) }
+    requires literals { HasCellNumbers (source_view source) }
     ensures program { IfOk result (IsProgram (program_in project.now source)) }
     ensures refusal { IfErr result (IsTreeRefused (program_in project.now source)) }
 {
@@ -40,15 +48,43 @@ fn compile_tree(alloc: Global, project: &Project, source: Source) -> Result<Prog
 
 /// Compiles a checked source.
 fn compile_checked(alloc: Global, project: &Project, checked: Checked) -> Result<Program, Refusal>
-    requires { IsChecked project.now checked }
+    requires checked { IsChecked project.now checked }
+    requires literals { HasCellNumbers (source_view checked.source) }
     ensures program { IfOk result (IsProgram (program_in project.now checked.source)) }
     ensures refusal { IfErr result (IsTreeRefused (program_in project.now checked.source)) }
 {
     let numbers = numbers(alloc, &checked, project)?;
-    let image = straight_image(alloc, project, &checked, numbers)?;
+    let image = image_of(alloc, project, &checked, numbers)?;
     are_words(image.words.as_slice());
     let Checked { places, .. } = checked;
     Ok(Program { image, places })
+}
+
+/// The code of a checked source that has these numbers.
+fn image_of(
+    alloc: Global,
+    project: &Project,
+    checked: &Checked,
+    numbers: Numbers,
+) -> Result<Image, Refusal>
+    requires checked { IsChecked project.now checked.now }
+    requires literals { HasCellNumbers (source_view checked.now.source) }
+    requires numbers { AreNumbers (program_in project.now checked.now.source) numbers }
+    ensures image { IfOk result (IsCodeFor (program_in project.now checked.now.source)) }
+    ensures refusal { IfErr result (IsTreeRefused (program_in project.now checked.now.source)) }
+{
+    let have = u64::from(project.node.code);
+    if numbers.size > 8 * have {
+        return Err(Refusal::Gen(GenError::CodeFull {
+            need: numbers.size,
+            have,
+        }));
+    }
+    // Read so that the proof knows that it has the range of its type.
+    let _id = project.id;
+    let core = expand_counted(alloc, checked, project, numbers)?;
+    let image = generate(alloc, &core, project)?;
+    Ok(image)
 }
 
 /// Reads words so that the proof knows that each has the range of its type.

@@ -1,11 +1,12 @@
 ghost use Rattle.std.specs.Prelude.{◌≡◌};
 ghost use Rattle.aseba_compile.specs.Checking.{check_refusal};
+ghost use Rattle.aseba_compile.specs.Coding.{code_refusal, expand_refusal};
 ghost use Rattle.aseba_compile.specs.Reading.{lex_refusal, syntax_refusal};
-ghost use Rattle.aseba_compile.specs.StraightWords.{code_refusal};
 ghost use Rattle.aseba_compile.specs.declared.refusal.Refusal.TheVariants.{Mem as OutOfMemory};
 
 use aseba_check::CheckError;
 use aseba_codegen::GenError;
+use aseba_expand::ExpandError;
 use aseba_lexer::LexError;
 use aseba_parser::SyntaxError;
 use aseba_words::Mem;
@@ -19,15 +20,11 @@ pub enum Refusal {
     Syntax(SyntaxError),
     /// Its tree isn't sound in the project. Want of memory never stands here either.
     Check(CheckError),
-    /// It is sound, but has a form that isn't compiled so far. Compiled are: a declaration without
-    /// a value, of any size; a declaration of one cell whose value is a sum; the assignment of a
-    /// sum to a whole variable of one cell; and an `emit` without an argument. A sum is made of
-    /// numbers and names with `+` and `-` between them.
-    NotBuilt,
-    /// It takes more words than the node has for code.
-    CodeFull { need: u64, have: u64 },
-    /// Its words fit, and it takes more stack cells than the node has.
-    StackFull { need: u64, have: u64 },
+    /// It is sound, and needs more cells than the node has. Want of memory never stands here either.
+    Expand(ExpandError),
+    /// It is sound, and needs more words or stack cells than the node has. Want of memory never
+    /// stands here either.
+    Gen(GenError),
     /// Memory didn't suffice.
     Mem,
 }
@@ -86,14 +83,24 @@ impl From<CheckError> for Refusal {
     }
 }
 
+impl From<ExpandError> for Refusal {
+    ghost from_gives = { λ error e. e ≡ expand_refusal error };
+
+    fn from(error: ExpandError) -> Refusal {
+        match error {
+            ExpandError::Mem => Refusal::Mem,
+            ExpandError::VariablesFull { .. } => Refusal::Expand(error),
+        }
+    }
+}
+
 impl From<GenError> for Refusal {
     ghost from_gives = { λ error e. e ≡ code_refusal error };
 
     fn from(error: GenError) -> Refusal {
         match error {
-            GenError::CodeFull { need, have } => Refusal::CodeFull { need, have },
-            GenError::StackFull { need, have } => Refusal::StackFull { need, have },
             GenError::Mem => Refusal::Mem,
+            GenError::CodeFull { .. } | GenError::StackFull { .. } => Refusal::Gen(error),
         }
     }
 }
