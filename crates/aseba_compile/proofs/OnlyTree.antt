@@ -11,8 +11,6 @@ use Rattle.aseba_lexer.specs.Lexed as lexer
 use Rattle.aseba_parser.specs.Parsed as parser
 use Rattle.aseba_parser.specs.declared.error.SyntaxError.{SyntaxError}
 use Rattle.aseba_parser.specs.declared.error.SyntaxError.TheVariants as syntax
-use Rattle.aseba_expand.specs.Literals.{HasCellNumbers}
-use Rattle.aseba_expand.proofs.SpelledNumbers.{text-numbers}
 use Rattle.aseba_compile.specs.Reading.{Reads, IsOnlyTree, IsTextRefused, syntax_refusal}
 
 pub only_tree : (project : Project) (text : List ℕ) (tokens slice : List Token) (end : Pos) (source : Source) → slice ≡ tokens → Tokens text tokens → lexer.IsDecided text
@@ -40,7 +38,3 @@ syntax-refused project text tokens slice end error e lexed f told =
 pub of_refusal : {T : Type 0} (r : Result T Refusal) (P : Refusal → Type 0) (refusal : Refusal) → IsErrAnd r (λ e. e ≡ refusal) → P refusal → IfErr r P
 of_refusal (Ok x) P refusal e h = tt
 of_refusal (Err y) P refusal e h = subst P (sym e) h
-
--- the numbers of a tree that a text spells are cells
-pub read-numbers : (project : Project) (text : List ℕ) (source : Source) → IsOnlyTree project text source → HasCellNumbers source
-read-numbers project text source only = text-numbers project source text only.reads.tokens only.reads.lexed only.reads.spelled

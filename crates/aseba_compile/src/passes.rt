@@ -5,7 +5,6 @@ ghost use Rattle.aseba_tree.specs.View.{project_view, source_view};
 ghost use Rattle.aseba_check.specs.Accepted.{IsChecked};
 ghost use Rattle.aseba_check.specs.CountedNumbers.{AreNumbers};
 ghost use Rattle.aseba_check.specs.Refused.{program_in};
-ghost use Rattle.aseba_expand.specs.Literals.{HasCellNumbers};
 ghost use Rattle.aseba_compile.specs.Answered.{IsCodeFor, IsCompiled, IsProgram, IsRefused};
 ghost use Rattle.aseba_compile.specs.Refused.{IsTreeRefused};
 
@@ -38,7 +37,6 @@ pub fn compile(alloc: Global, text: &[u8], project: &Project) -> Result<Program,
 fn compile_tree(alloc: Global, project: &Project, source: Source) -> Result<Program, Refusal>
     requires inside { InsideProject project.now }
     requires is_tree { IsTree (source_view source) }
-    requires literals { HasCellNumbers (source_view source) }
     ensures program { IfOk result (IsProgram (program_in project.now source)) }
     ensures refusal { IfErr result (IsTreeRefused (program_in project.now source)) }
 {
@@ -49,7 +47,6 @@ fn compile_tree(alloc: Global, project: &Project, source: Source) -> Result<Prog
 /// Compiles a checked source.
 fn compile_checked(alloc: Global, project: &Project, checked: Checked) -> Result<Program, Refusal>
     requires checked { IsChecked project.now checked }
-    requires literals { HasCellNumbers (source_view checked.source) }
     ensures program { IfOk result (IsProgram (program_in project.now checked.source)) }
     ensures refusal { IfErr result (IsTreeRefused (program_in project.now checked.source)) }
 {
@@ -68,7 +65,6 @@ fn image_of(
     numbers: Numbers,
 ) -> Result<Image, Refusal>
     requires checked { IsChecked project.now checked.now }
-    requires literals { HasCellNumbers (source_view checked.now.source) }
     requires numbers { AreNumbers (program_in project.now checked.now.source) numbers }
     ensures image { IfOk result (IsCodeFor (program_in project.now checked.now.source)) }
     ensures refusal { IfErr result (IsTreeRefused (program_in project.now checked.now.source)) }

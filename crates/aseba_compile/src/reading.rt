@@ -1,7 +1,6 @@
 ghost use Rattle.std.specs.Prelude.{◌<◌, length, IfOk, IfErr};
 ghost use Rattle.aseba_tree.specs.Shape.{IsTree};
 ghost use Rattle.aseba_tree.specs.View.{project_view, source_view};
-ghost use Rattle.aseba_expand.specs.Literals.{HasCellNumbers};
 ghost use Rattle.aseba_compile.specs.Reading.{IsOnlyTree, IsTextRefused};
 
 use crate::refusal::Refusal;
@@ -15,7 +14,6 @@ pub fn read(alloc: Global, project: &Project, text: &[u8]) -> Result<Source, Ref
     requires { length text.now < 4294967295 }
     ensures tree { IfOk result (λ source. IsOnlyTree (project_view project.now) text.now (source_view source)) }
     ensures shape { IfOk result (λ source. IsTree (source_view source)) }
-    ensures numbers { IfOk result (λ source. HasCellNumbers (source_view source)) }
     ensures fault { IfErr result (IsTextRefused (project_view project.now) text.now) }
 {
     let tokens = lex(alloc, text)?;

@@ -1,7 +1,7 @@
 use Rattle.std.proofs.Common.{ap, length, arith}
 use Rattle.aseba_tree.specs.View.{project_view, source_view}
 use Rattle.aseba_compile.specs.Reading.{IsTextRefused, syntax_refusal}
-use Rattle.aseba_compile.proofs.OnlyTree.{only_tree, read-numbers, syntax-refused, of_refusal}
+use Rattle.aseba_compile.proofs.OnlyTree.{only_tree, syntax-refused, of_refusal}
 use Rattle.aseba_compile.proofs.reading.read.Goals as goal
 
 pub returns-in_err-source-clause-fault : goal.returns-in_err-source-clause-fault
@@ -19,9 +19,3 @@ pub returns-clause-shape : goal.returns-clause-shape
 returns-clause-shape c =
     let same = ap length c.as_slice.ensures in
     c.in_ok-source.ensures.shape (omega (arith, c.in_ok-tokens.ensures.few, same, c.requires))
-
-pub returns-clause-numbers : goal.returns-clause-numbers
-returns-clause-numbers c =
-    read-numbers (project_view c.args.project.now) c.args.text.now (source_view c.in_ok-source.source)
-    (only_tree (project_view c.args.project.now) c.args.text.now c.in_ok-tokens.tokens c.as_slice.result.now c.end_of.result (source_view c.in_ok-source.source) c.as_slice.ensures c.in_ok-tokens.ensures.tokens
-    c.in_ok-tokens.ensures.decided c.in_ok-source.ensures.tree c.in_ok-source.ensures.decided)
