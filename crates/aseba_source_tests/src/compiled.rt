@@ -26,10 +26,16 @@ fn a_sum_is_compiled(rt: HostRuntime) -> Result<(), Fail> {
 }
 
 #[test]
-fn others_are_refused(rt: HostRuntime) -> Result<(), Fail> {
+fn a_loop_is_compiled(rt: HostRuntime) -> Result<(), Fail> {
     let project = default_project(rt.alloc())?;
-    let refused = compile(rt.alloc(), b"while 1 do end", &project);
-    assert_eq!(rt; refused.err(), Some(Refusal::NotBuilt));
+    let Ok(program) = compile(rt.alloc(), b"var i\nfor i in 1:2 do\nend", &project) else {
+        return Err(Fail::from("refused"));
+    };
+    let words = [
+        3, 0xffff, 3, 0x1001, 0x4022, 0x3022, 0x1002, 0xa00f, 7, 0x3022, 0x1001, 0x8002, 0x4022,
+        0x9ff8, 0,
+    ];
+    assert_eq!(rt; program.image.words.as_slice(), words.as_slice());
     Ok(())
 }
 

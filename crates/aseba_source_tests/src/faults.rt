@@ -146,10 +146,9 @@ fn answer(alloc: Global, text: &[u8], code: u16) -> Result<String, AllocError> {
         Err(Refusal::Lex(_)) | Err(Refusal::Syntax(_)) | Err(Refusal::Mem) => {
             String::from_str(alloc, "not read")
         }
-        Ok(_) | Err(Refusal::NotBuilt) | Err(Refusal::CodeFull { .. }) => {
+        Ok(_) | Err(Refusal::Expand(_)) | Err(Refusal::Gen(_)) => {
             String::from_str(alloc, "sound")
         }
-        Err(Refusal::StackFull { .. }) => String::from_str(alloc, "sound"),
     }
 }
 

@@ -1,12 +1,13 @@
 -- What a run of a compiled text wrote is what the text means.
 use Rattle.std.proofs.Common.{◌≡◌, ℕ, suc, ◌+◌, ◌≤◌, List, [], ◌∷◌, ◌++◌, map, drop, length, sum_by, Option, ap, refl, sym, ◌∙◌, arith, length-append, inr}
+use Rattle.std.specs.Prelude.{slice_index}
 use Rattle.std.proofs.lemmas.List.{drop-map, length-map}
 use Rattle.std.proofs.lemmas.List.Sums.{sum_by-cons}
 use Rattle.aseba_edge.specs.Sink.{Took, TookFirst}
 use Rattle.aseba_tree.specs.Code.{Sized, Project}
 use Rattle.aseba_tree.specs.declared.project.Project as code
 use Rattle.aseba_tree.specs.View.{project_view, sized_view, placed_view}
-use Rattle.aseba_tree.specs.Line.{sent, began, ignored, dropped, killed, was_set, division, bounds, Line, told, var, end, line_by, lines_text}
+use Rattle.aseba_tree.specs.Line.{line_by}
 use Rattle.aseba_tree.specs.Layout as tree
 use Rattle.aseba_tree.specs.Layout.{placed_from, layout}
 use Rattle.aseba_tree.specs.State as meaning
@@ -16,8 +17,8 @@ use Rattle.aseba_target.specs.MachineRun.{machine_lines}
 use Rattle.aseba_target.proofs.Started.{started_begun}
 use Rattle.aseba_tree.specs.declared.placed.Placed.{Placed}
 use Rattle.aseba_compile.specs.declared.program.Program.{Program}
-use Rattle.aseba_compile.specs.Compiled.{IsProgram, IsCompiled}
-use Rattle.aseba_tools.specs.Meant.{without_lines, IsMeant, IsMeantOf, Wrote, WroteFirst, RanText}
+use Rattle.aseba_compile.specs.Answered.{IsProgram, IsCompiled}
+use Rattle.aseba_tools.specs.Meant.{IsMeant, IsMeantOf, Wrote, WroteFirst, RanText}
 use Rattle.aseba_tools.specs.SimText.{layout_with, own_places, code_line, told_text, sim_text}
 use Rattle.aseba_tools.specs.Unwritten.{status_of}
 use Rattle.aseba_tools.specs.declared.putting.Unwritten.{Unwritten}
@@ -43,7 +44,7 @@ layouts source program is =
     let own : map placed_view (own_places source.project program) ≡ placed_from (sum_by (λ v. v.size) node) (declared source) =
     sym (drop-map placed_view (length source.project.node.variables) program.places) ∙ ap (drop (length source.project.node.variables)) is.places ∙ placed-behind 0 node (declared source)
     ∙ ap (λ n. placed_from n (declared source)) (let same : 0 + sum_by (λ (v : Sized). v.size) node ≡ sum_by (λ (v : Sized). v.size) node = omega arith in same) in
-    rw (own, is.cells) refl
+    rw (own, is.code.cells) refl
 
 -- there are places of all variables of the node
 node-placed : (source : meaning.Program) (program : Program) → IsProgram source program → length source.project.node.variables ≤ length program.places
@@ -54,24 +55,6 @@ node-placed source program is =
     let parts = length-append (node_variables source.project) (declared source) in
     omega (arith, all, laid, long, parts)
 
--- Lines
-
-bare : (f : ℕ → ℕ) (x : Line) → line_by (λ line. 0) (line_by f x) ≡ line_by (λ line. 0) x
-bare f (told t k (sent event cells)) = refl
-bare f (told t k (began event)) = refl
-bare f (told t k (ignored event)) = refl
-bare f (told t k (dropped event)) = refl
-bare f (told t k (killed line)) = refl
-bare f (told t k (was_set name)) = refl
-bare f (told t k (division line)) = refl
-bare f (told t k (bounds line size i)) = refl
-bare f (var name cells) = refl
-bare f (end t k) = refl
-
-without-lined : (f : ℕ → ℕ) (xs : List Line) → without_lines (map (line_by f) xs) ≡ without_lines xs
-without-lined f [] = refl
-without-lined f (x ∷ xs) = rw (bare f x, without-lined f xs) refl
-
 -- Texts
 
 -- what is written for a program of a source
@@ -79,22 +62,22 @@ meant : (source : meaning.Program) (program : Program) (ticks : ℕ) → IsProgr
 meant source program ticks is =
     let words = program.image.words in
     let machine = started source.project words in
-    let runs = is.code.runs machine ticks (started_begun source.project words is.fits) in
+    let code = is.code.code in
+    let begun = started_begun source.project words code.sizes.fits in
     record {
       words = words;
       are_words = is.words;
-      fits = is.fits;
-      text_is =
-          ap (λ l. code_line words ++ told_text program.image.lines (machine_lines source.project l machine [] ticks)) (layouts source program is)
-          ∙ ap (λ t. code_line words ++ lines_text t) runs.lines_same;
-      paced = runs.paced;
-      alike = sym (without-lined _ (machine_lines source.project (layout_of source) machine [] ticks)) ∙ ap without_lines runs.lines_same;
+      fits = code.sizes.fits;
       lines = program.image.lines;
-      code = is.code;
+      told = map (line_by (slice_index program.image.lines)) (machine_lines source.project (layout_of source) machine [] ticks);
+      tells = refl;
+      text_is = ap (λ l. code_line words ++ told_text program.image.lines (machine_lines source.project l machine [] ticks)) (layouts source program is);
+      means = λ known. let runs = code.runs machine [] ticks (record { started = begun; good = refl }) known in record { lines = runs.lines_same; paced = runs.paced };
+      code = code;
     }
 
 meant-of : (project : Project) (text : List ℕ) (program : Program) (ticks : ℕ) → IsCompiled project text program → IsMeantOf project text ticks (sim_text project program ticks)
-meant-of project text program ticks c = record { source = c.source; only = c.only; sound = c.holds.sound; built = c.holds.built; meant = meant (record { project = project; source = c.source }) program ticks c.holds }
+meant-of project text program ticks c = record { source = c.source; only = c.only; sound = c.holds.sound; meant = meant (record { project = project; source = c.source }) program ticks c.holds }
 
 module _ (project : Project) (text : List ℕ) (program : Program) (ticks : ℕ) (before after : Option (List ℕ)) (c : IsCompiled project text program) where
   pub wrote : Took before (sim_text project program ticks) after → Wrote project text ticks before after

@@ -1,10 +1,10 @@
 -- What `sim` is to write for the text of a source, and why it writes nothing.
-use Rattle.std.specs.Prelude.{◌≡◌, ℕ, ◌<◌, ◌≤◌, true, All, ◌⊎◌, List, [], ◌++◌, length, map, Option}
+use Rattle.std.specs.Prelude.{◌≡◌, ℕ, ◌<◌, ◌≤◌, Bool, All, ◌⊎◌, List, [], ◌++◌, length, map, slice_index, Option}
 use Rattle.aseba_edge.specs.Sink.{Took, TookFirst}
 use Rattle.aseba_tree.specs.Code.{Project, Source}
 use Rattle.aseba_tree.specs.Line.{Line, line_by, lines_text}
 use Rattle.aseba_tree.specs.Run.{Paced}
-use Rattle.aseba_tree.specs.Lines.{source_lines, source_moments}
+use Rattle.aseba_tree.specs.Lines.{source_lines, source_moments, SourceCallsKnown}
 use Rattle.aseba_tree.specs.Numbers.{source_weight}
 use Rattle.aseba_tree.specs.State.{Program}
 use Rattle.aseba_tree.specs.Soundness.{Sound}
@@ -12,37 +12,41 @@ use Rattle.aseba_target.specs.Node.{layout_of, started}
 use Rattle.aseba_target.specs.MachineRun.{machine_lines, machine_beats}
 use Rattle.aseba_compile.specs.declared.refusal.Refusal.{Refusal}
 use Rattle.aseba_compile.specs.declared.refusal.Refusal.TheVariants.{Mem}
-use Rattle.aseba_compile.specs.Compiled.{IsCodeOf, IsRefused}
+use Rattle.aseba_compile.specs.Answered.{IsRefused}
+use Rattle.aseba_compile.specs.Compiled.{Compiled}
 use Rattle.aseba_compile.specs.Reading.{IsOnlyTree}
-use Rattle.aseba_compile.specs.Straight.{has_only_built_forms}
 use Rattle.aseba_tools.specs.SimText.{code_line}
 use Rattle.aseba_tools.specs.declared.status.Status.{Status}
 use Rattle.aseba_tools.specs.declared.status.Status.TheVariants.{Done, Refused, WriteFault, Memory}
 
--- lines without what they tell of a line of the source
-abbrev pub without_lines : List Line → List Line
-without_lines told = map (line_by (λ line. 0)) told
+-- the ticks that are effects of some words in the node's empty code
+abbrev pub effects_of : Program → List ℕ → ℕ → List Bool
+effects_of program words ticks = machine_beats program.project (layout_of program) (started program.project words) [] ticks
 
--- The text of a run: the line of some words that fit the node, and then what the source means, where a step is done at each tick that is an effect of these
--- words. Such ticks keep the source's pace, and the machine alone, without the source, tells the same of the words, but for lines of the source. With some lines
--- the words are code of the source, however long they run.
+-- What is told is what the source means, where a step is done at each of these ticks, which keep the source's pace.
+pub record TellsMeaning (program : Program) (beats : List Bool) (told : List Line) : Type 0 where
+  pub lines : told ≡ source_lines program [] beats
+  pub paced : Paced (source_weight program) (source_moments program [] beats)
+
+-- The text of a run: the line of some words that fit the node, and then what the machine alone, without the source, tells of them, with a line of the source for
+-- each place of the code. With these lines the words are code of the source, however long they run. As long as each native that is called is known, what is
+-- told is what the source means.
 pub record IsMeant (program : Program) (ticks : ℕ) (text : List ℕ) : Type 0 where
   pub words : List ℕ
   pub are_words : All (λ word. word < 65536) words
   pub fits : length words ≤ program.project.node.code
-  pub text_is : text ≡ code_line words ++ lines_text (source_lines program [] (machine_beats program.project (layout_of program) (started program.project words) [] ticks))
-  pub paced : Paced (source_weight program) (source_moments program [] (machine_beats program.project (layout_of program) (started program.project words) [] ticks))
-  pub alike : without_lines (machine_lines program.project (layout_of program) (started program.project words) [] ticks)
-      ≡ without_lines (source_lines program [] (machine_beats program.project (layout_of program) (started program.project words) [] ticks))
   pub lines : List ℕ
-  pub code : IsCodeOf program words lines
+  pub told : List Line
+  pub tells : told ≡ map (line_by (slice_index lines)) (machine_lines program.project (layout_of program) (started program.project words) [] ticks)
+  pub text_is : text ≡ code_line words ++ lines_text told
+  pub means : SourceCallsKnown program [] (effects_of program words ticks) → TellsMeaning program (effects_of program words ticks) told
+  pub code : Compiled program words lines
 
--- the text of a run of the one tree that a source's text spells, which is sound and has only forms that are compiled
+-- the text of a run of the one tree that a source's text spells, which is sound
 pub record IsMeantOf (project : Project) (text : List ℕ) (ticks : ℕ) (written : List ℕ) : Type 0 where
   pub source : Source
   pub only : IsOnlyTree project text source
   pub sound : Sound (record { project = project; source = source })
-  pub built : has_only_built_forms (record { project = project; source = source }) ≡ true
   pub meant : IsMeant (record { project = project; source = source }) ticks written
 
 -- all of it was written

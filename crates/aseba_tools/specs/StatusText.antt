@@ -8,8 +8,12 @@ use Rattle.aseba_lexer.specs.declared.error.LexError.{LexError}
 use Rattle.aseba_lexer.specs.declared.error.LexError.TheVariants as lex
 use Rattle.aseba_parser.specs.declared.error.SyntaxError.{SyntaxError}
 use Rattle.aseba_parser.specs.declared.error.SyntaxError.TheVariants as syntax
+use Rattle.aseba_expand.specs.declared.error.ExpandError.{ExpandError}
+use Rattle.aseba_expand.specs.declared.error.ExpandError.TheVariants as expand
+use Rattle.aseba_codegen.specs.declared.error.GenError.{GenError}
+use Rattle.aseba_codegen.specs.declared.error.GenError.TheVariants as gen
 use Rattle.aseba_compile.specs.declared.refusal.Refusal.{Refusal as Reason}
-use Rattle.aseba_compile.specs.declared.refusal.Refusal.TheVariants.{Lex, Syntax, Check, NotBuilt, CodeFull, StackFull, Mem}
+use Rattle.aseba_compile.specs.declared.refusal.Refusal.TheVariants.{Lex, Syntax, Check, Expand, Gen, Mem}
 use Rattle.aseba_tools.specs.declared.status.Status.{Status}
 use Rattle.aseba_tools.specs.declared.status.Status.TheVariants.{Done, Usage, Absent, ReadFault, Refused, BadProject, BadScript, WriteFault, Memory, TooBig, BadFrame, NoNode, DialFault, LongStream}
 use Rattle.aseba_tools.specs.declared.status.StatusLine.{StatusLine}
@@ -75,14 +79,23 @@ check_text (check.VariablesFull need have) = need_text (codes "VariablesFull") n
 check_text (check.SubroutineFar at start) = far_text at start
 check_text check.Mem = codes "Mem"
 
+-- what a sound source needs more of than there is
+abbrev pub expand_text : ExpandError → List ℕ
+expand_text (expand.VariablesFull need have) = need_text (codes "VariablesFull") need have
+expand_text expand.Mem = codes "Mem"
+
+abbrev pub code_text : GenError → List ℕ
+code_text (gen.CodeFull need have) = need_text (codes "CodeFull") need have
+code_text (gen.StackFull need have) = need_text (codes "StackFull") need have
+code_text gen.Mem = codes "Mem"
+
 -- the name of a refusal with its place and its numbers
 abbrev pub refusal_text : Reason → List ℕ
 refusal_text (Lex error) = lex_text error
 refusal_text (Syntax error) = syntax_text error
 refusal_text (Check error) = check_text error
-refusal_text NotBuilt = codes "NotBuilt"
-refusal_text (CodeFull need have) = need_text (codes "CodeFull") need have
-refusal_text (StackFull need have) = need_text (codes "StackFull") need have
+refusal_text (Expand error) = expand_text error
+refusal_text (Gen error) = code_text error
 refusal_text Mem = codes "Mem"
 
 -- the status by which the program ends, and the line that is told of it: nothing where all was done

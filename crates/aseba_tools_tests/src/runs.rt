@@ -166,19 +166,98 @@ fn texts_that_are_no_program(rt: HostRuntime) -> Result<(), Fail> {
     all_refused(rt.alloc(), &rt, &texts)
 }
 
+/// Each text runs for so many ticks, and tells this.
+fn all_run(alloc: Global, rt: &impl Abort, runs: &[(&str, &str, &str)]) -> Result<(), Fail> {
+    for (text, ticks, written) in runs {
+        let line = format!(in alloc; "sim|default|x.aseba|{ticks}")?;
+        let ran = ran_with(alloc, &line, text.as_bytes(), 0, 1000)?;
+        assert_eq!(rt; ran.number, 0, "{text}");
+        assert_eq!(rt; ran.out.bytes(), written.as_bytes(), "{text}");
+    }
+    Ok(())
+}
+
 #[test]
-fn forms_that_are_not_compiled(rt: HostRuntime) -> Result<(), Fail> {
+fn stops(rt: HostRuntime) -> Result<(), Fail> {
+    let runs = [
+        (
+            "var x = 1\nx = x / 0",
+            "10",
+            "code 0003 ffff 0003 1001 4022 3022 1000 8005 4022 0000\n4 2 division 2\nvar x 1\nend 10 2\n",
+        ),
+        (
+            "var a[3]\nvar i = 3\na[i] = 7",
+            "10",
+            "code 0003 ffff 0003 1003 4025 1007 3025 6022 0003 0000\n4 2 bounds 3 3 3\nvar a 0 0 0\nvar i 3\nend 10 2\n",
+        ),
+    ];
+    all_run(rt.alloc(), &rt, &runs)
+}
+
+#[test]
+fn loops_and_subroutines(rt: HostRuntime) -> Result<(), Fail> {
+    let runs = [
+        (
+            "var i\nfor i in 1:2 do\nend",
+            "30",
+            "code 0003 ffff 0003 1001 4022 3022 1002 a00f 0007 3022 1001 8002 4022 9ff8 0000\nvar i 3\nend 30 9\n",
+        ),
+        (
+            "var x\ncallsub s\nsub s\nx = 5",
+            "10",
+            "code 0003 ffff 0003 d005 0000 1005 4022 e000\nvar x 5\nend 10 4\n",
+        ),
+    ];
+    all_run(rt.alloc(), &rt, &runs)
+}
+
+#[test]
+fn a_zero_divisor_of_a_native(rt: HostRuntime) -> Result<(), Fail> {
+    let text = "var a[2] = [6,6]\nvar b[2] = [2,0]\ncall math.div(a, a, b)";
+    let ran = ran_with(
+        rt.alloc(),
+        "sim|default|x.aseba|60",
+        text.as_bytes(),
+        0,
+        1000,
+    )?;
+    assert_eq!(rt; ran.number, 0);
+    let written = std::str::from_utf8(ran.out.bytes()).unwrap_or("");
+    assert!(rt; written.contains(" division 3\nvar a 3 6\nvar b 2 0\nend 60 "));
+    Ok(())
+}
+
+/// A sum in so many pairs of parentheses.
+fn nested(alloc: Global, pairs: usize) -> Result<String, Mem> {
+    let mut text = String::from_str(alloc, "var x\nx = ")?;
+    for _ in 0..pairs {
+        text.push_str("x + (")?;
+    }
+    text.push_str("x + x")?;
+    for _ in 0..pairs {
+        text.push_str(")")?;
+    }
+    Ok(text)
+}
+
+#[test]
+fn cells_and_stack_are_too_few(rt: HostRuntime) -> Result<(), Fail> {
+    let deepest = nested(rt.alloc(), 62)?;
+    let ran = ran_with(
+        rt.alloc(),
+        "sim|default|x.aseba|5",
+        deepest.as_bytes(),
+        0,
+        3000,
+    )?;
+    assert_eq!(rt; ran.number, 0);
+    let deeper = nested(rt.alloc(), 63)?;
     let texts = [
-        ("while 1 do\nend\n", "NotBuilt"),
-        ("var x = -1", "NotBuilt"),
-        ("var x x += 1", "NotBuilt"),
-        ("var a[3] a[0] = 1", "NotBuilt"),
-        ("var a[2] = [1, 2]", "NotBuilt"),
-        ("emit pair [1, 2]", "NotBuilt"),
-        ("onevent ping", "NotBuilt"),
-        ("callsub s sub s return", "NotBuilt"),
-        ("onevent ping callsub a sub a return", "NotBuilt"),
-        ("var a[2] call math.copy(a, [1, 2])", "NotBuilt"),
+        (deeper.as_str(), "StackFull need 65 have 64"),
+        (
+            "var a[990]\na[1:989] = a[0:988]",
+            "VariablesFull need 2013 have 1024",
+        ),
     ];
     all_refused(rt.alloc(), &rt, &texts)
 }

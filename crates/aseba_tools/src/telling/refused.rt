@@ -2,11 +2,13 @@
 
 ghost use Rattle.std.specs.Prelude.{◌≡◌, ◌+◌, ◌≤◌, [], ◌++◌, codes, length};
 ghost use Rattle.arrayvec.specs.ArrayString.{array_string_len};
-ghost use Rattle.aseba_tools.specs.StatusText.{fault_text, field_text, lex_text, need_text, place_text, refusal_text, syntax_text};
+ghost use Rattle.aseba_tools.specs.StatusText.{code_text, expand_text, fault_text, field_text, lex_text, need_text, place_text, refusal_text, syntax_text};
 
 use crate::telling::line::{Line, push_number};
 use crate::telling::unsound::push_check;
+use aseba_codegen::GenError;
 use aseba_compile::Refusal;
+use aseba_expand::ExpandError;
 use aseba_lexer::LexError;
 use aseba_parser::SyntaxError;
 use aseba_tree::Pos;
@@ -32,9 +34,8 @@ fn push_refusal(line: &mut Line, refusal: &Refusal)
         Refusal::Lex(error) => push_lex(line, error),
         Refusal::Syntax(error) => push_syntax(line, error),
         Refusal::Check(error) => push_check(line, error),
-        Refusal::NotBuilt => line.push_str("NotBuilt"),
-        Refusal::CodeFull { need, have } => push_need(line, "CodeFull", *need, *have),
-        Refusal::StackFull { need, have } => push_need(line, "StackFull", *need, *have),
+        Refusal::Expand(error) => push_expand(line, error),
+        Refusal::Gen(error) => push_code(line, error),
         Refusal::Mem => line.push_str("Mem"),
     }
 }
@@ -63,6 +64,33 @@ fn push_syntax(line: &mut Line, error: &SyntaxError)
         SyntaxError::Syntax { at } => push_fault(line, *at, "Syntax"),
         SyntaxError::TooDeep { at } => push_fault(line, *at, "TooDeep"),
         SyntaxError::Mem => line.push_str("Mem"),
+    }
+}
+
+/// Adds that variables and temporaries take more cells than there are.
+fn push_expand(line: &mut Line, error: &ExpandError)
+    requires { array_string_len line.old ≤ 32 }
+    ensures text { line.new.bytes ≡ line.old.bytes ++ expand_text error.now }
+    ensures short { array_string_len line.new ≤ array_string_len line.old + 68 }
+{
+    match error {
+        ExpandError::VariablesFull { need, have } => {
+            push_need(line, "VariablesFull", *need, *have)
+        }
+        ExpandError::Mem => line.push_str("Mem"),
+    }
+}
+
+/// Adds that code takes more words or stack cells than there are.
+fn push_code(line: &mut Line, error: &GenError)
+    requires { array_string_len line.old ≤ 32 }
+    ensures text { line.new.bytes ≡ line.old.bytes ++ code_text error.now }
+    ensures short { array_string_len line.new ≤ array_string_len line.old + 68 }
+{
+    match error {
+        GenError::CodeFull { need, have } => push_need(line, "CodeFull", *need, *have),
+        GenError::StackFull { need, have } => push_need(line, "StackFull", *need, *have),
+        GenError::Mem => line.push_str("Mem"),
     }
 }
 
