@@ -1,6 +1,5 @@
 mod Apart
 mod Bases
-pub mod Begin
 pub mod BitLaws
 mod Branches
 mod CellLists
@@ -17,7 +16,6 @@ pub mod FormAnswers
 mod FormViews
 mod GoodEntries
 mod GoodLists
-mod Groups
 mod JumpRows
 pub mod Jumps
 pub mod LaidOut
@@ -33,10 +31,8 @@ mod Outside
 mod PartOrder
 mod Placed
 mod PlacedLaws
-mod Placing
 mod Puts
 pub mod Reach
-pub mod Runs
 mod Scripts
 mod Shown
 mod Silences

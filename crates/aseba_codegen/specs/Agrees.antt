@@ -1,16 +1,16 @@
 -- How a machine that runs the code of a core stands to the core.
-use Rattle.std.specs.Prelude.{◌≡◌, ℕ, ◌<◌, ◌≤◌, Bool, true, false, ◌&&◌, IsTrue, List, [], map, length, take, sum_by, All, slice_index}
+use Rattle.std.specs.Prelude.{◌≡◌, ℕ, ◌<◌, ◌≤◌, true, List, map, length, take, sum_by, All, slice_index}
 use Rattle.aseba_tree.specs.Code.{Project}
 use Rattle.aseba_tree.specs.Line.{line_by}
 use Rattle.aseba_tree.specs.Script.{Script}
-use Rattle.aseba_tree.specs.Core.{core_stmt, CoreForm, store, send, CoreStmts, no_core, core_stmts, Core}
+use Rattle.aseba_tree.specs.Core.{Core}
 use Rattle.aseba_tree.specs.CoreNumbers.{core_words, core_depth, core_weight}
 use Rattle.aseba_tree.specs.CoreShape.{IsCore}
 use Rattle.aseba_tree.specs.CoreStep.{CoreProgram, CoreState, core_next_line}
 use Rattle.aseba_tree.specs.CoreRun.{own_places, core_run, core_lines, core_moments}
 use Rattle.aseba_tree.specs.Run.{Paced, HasNoError}
 use Rattle.aseba_vm.specs.State.{State}
-use Rattle.aseba_target.specs.Node.{Layout, IsStarted}
+use Rattle.aseba_target.specs.Node.{Layout}
 use Rattle.aseba_target.specs.MachineRun.{machine_run, machine_lines, machine_moments, machine_beats}
 use Rattle.aseba_codegen.specs.declared.coded.Coded.{Coded}
 use Rattle.aseba_codegen.specs.Places.{edge_places, HasBits}
@@ -33,25 +33,6 @@ pub record HasRoom (project : Project) (core : Core) : Type 0 where
   pub shape : IsCore project core
   pub words : core_words project core ≤ project.node.code
   pub deep : core_depth core ≤ project.node.stack
-
--- statements that only store and send
-abbrev pub is_straight_form : CoreForm → Bool
-is_straight_form (store target e) = true
-is_straight_form (send event address count) = true
-is_straight_form _ = false
-
-abbrev pub is_straight : CoreStmts → Bool
-is_straight no_core = true
-is_straight (core_stmts (core_stmt line form) ss) = is_straight_form form && is_straight ss
-
--- A core of such statements without parts, which its node has room for.
-pub record IsStraightCore (project : Project) (core : Core) : Type 0 where
-  pub node : IsNode project
-  pub shape : IsCore project core
-  pub size : core.size ≤ project.node.code
-  pub depth : core.depth ≤ project.node.stack
-  pub straight : IsTrue (is_straight core.init)
-  pub alone : core.parts ≡ []
 
 -- What is seen of both
 
@@ -90,9 +71,3 @@ pub record RunsAlike (program : CoreProgram) (layout : Layout) (m : State) (scri
       (core_run program script (machine_beats program.project layout m script n)).state
   pub paced : Paced (core_weight program.core) (core_moments program script (machine_beats program.project layout m script n))
   pub no_error : HasNoError (machine_moments program.project layout m script n)
-
--- Straight code, run without a script, runs as its core does, whatever stands behind it in the machine's code.
-abbrev pub StraightCodeRuns : Type 0
-StraightCodeRuns =
-    (program : CoreProgram) (layout : Layout) (m : State) (n : ℕ) → IsStraightCore program.project program.core → IsLaidOut program layout
-    → IsStarted program.project (words_of program) m → RunsAlike program layout m [] n

@@ -4,7 +4,6 @@
 //! what they say.
 #![tactic(auto)]
 
-ghost use Rattle.aseba_codegen.specs.Agrees.{StraightCodeRuns};
 ghost use Rattle.aseba_codegen.specs.CodeRuns.{CodeCalls, CodeRuns};
 ghost use Rattle.aseba_codegen.specs.Places.{BitsStandAtPlaces};
 ghost use Rattle.aseba_codegen.specs.PlacesByText.{BitsByText, HasBitsByText, PlacesByText};
@@ -31,12 +30,6 @@ pub use image::{Image, generate};
 pub fn code_runs()
     ensures runs { CodeRuns }
     ensures calls { CodeCalls }
-{}
-
-/// The code of a core that only stores and sends runs as the core does: with the lines of its
-/// steps, at its pace, and without a node error.
-pub fn straight_code_runs()
-    ensures { StraightCodeRuns }
 {}
 
 /// Where the branch words of `when`s have their bits, the bits by places are these.
