@@ -2,7 +2,7 @@
 //! own.
 #![tactic(auto)]
 
-use aseba_edge::{NoDialer, SystemClock, SystemFiles, WriterSink};
+use aseba_edge::{SystemClock, SystemDialer, SystemFiles, WriterSink};
 use aseba_tools::{Status, run, tell};
 use std::process::ExitCode;
 use std::thread::Builder;
@@ -45,7 +45,7 @@ fn run_words(rt: &HostRuntime) -> u8 {
         }
     };
     let mut files = SystemFiles::new(rt);
-    let mut dialer = NoDialer::new();
+    let mut dialer = SystemDialer::new(rt);
     let mut out = WriterSink::new(rt.stdout());
     let mut err = WriterSink::new(rt.stderr());
     let mut clock = SystemClock::new(rt);

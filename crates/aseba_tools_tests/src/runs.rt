@@ -1,5 +1,5 @@
 //! The tools over files and outputs in memory.
-use aseba_edge::{MemoryClock, MemoryFile, MemoryFiles, MemorySink, NoDialer};
+use aseba_edge::{MemoryClock, MemoryDialer, MemoryFile, MemoryFiles, MemorySink};
 use aseba_tools::run;
 use aseba_words::{List, Mem, Name};
 use std::alloc::Global;
@@ -68,7 +68,7 @@ fn ran_over(
     let words = words_of(alloc, line)?;
     let failing = List::from_slice(alloc, &[failing])?;
     let mut files = MemoryFiles::new(files, failing);
-    let mut dialer = NoDialer::new();
+    let mut dialer = MemoryDialer::new(alloc, List::new(alloc), List::new(alloc), List::new(alloc));
     let mut out = MemorySink::new(alloc, room, List::new(alloc))?;
     let mut err = MemorySink::new(alloc, err_room, List::new(alloc))?;
     let mut clock = MemoryClock::new(0, List::new(alloc));

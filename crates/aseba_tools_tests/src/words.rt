@@ -1,5 +1,5 @@
 //! Which words are a command line, over an empty source and a file of frames in memory.
-use aseba_edge::{MemoryClock, MemoryFile, MemoryFiles, MemorySink, NoDialer};
+use aseba_edge::{MemoryClock, MemoryDialer, MemoryFile, MemoryFiles, MemorySink};
 use aseba_tools::run;
 use aseba_words::{List, Mem, Name};
 use std::alloc::Global;
@@ -36,7 +36,7 @@ fn ran(alloc: Global, line: &str) -> Result<Ended, Mem> {
         alloc,
         words.as_slice(),
         &mut files,
-        &mut NoDialer::new(),
+        &mut MemoryDialer::new(alloc, List::new(alloc), List::new(alloc), List::new(alloc)),
         &mut out,
         &mut err,
         &mut MemoryClock::new(0, List::new(alloc)),

@@ -2,24 +2,11 @@
 use crate::outside::read_all;
 use aseba_edge::{
     Accepted, DialFault, Dialer, LinkIn, LinkOut, LinkPoll, LinkScript, ListenFault, Listener,
-    MemoryDialer, MemoryLink, MemoryListener, MemoryPolledLink, NoDialer, PollAnswer, Polled,
-    PutFault,
+    MemoryDialer, MemoryLink, MemoryListener, MemoryPolledLink, PollAnswer, Polled, PutFault,
 };
 use aseba_words::{List, Mem};
 use std::alloc::Global;
 use std::test::Fail;
-
-#[test]
-fn nobody_answers_a_dial(rt: HostRuntime) {
-    let mut dialer = NoDialer::new();
-    assert!(rt; matches!(dialer.dial(rt.alloc(), "h:1"), Err(DialFault::Refused)));
-    assert!(rt;
-        matches!(
-            dialer.dial_polled(rt.alloc(), "h:1"),
-            Err(DialFault::Refused)
-        )
-    );
-}
 
 fn pieces_of(alloc: Global, texts: &[&str]) -> Result<List<List<u8>>, Mem> {
     let mut pieces = List::new(alloc);
