@@ -162,7 +162,23 @@ fn texts_that_are_no_program(rt: HostRuntime) -> Result<(), Fail> {
         ("var x = 12ab", "1:9 BadNumber"),
         ("var x\n\u{e9}", "2:1 BadByte"),
         ("var x #* open", "1:7 OpenComment"),
+        ("x = 40000", "1:5 BadNumber"),
+        ("var x = ", "1:9 Syntax"),
+        ("emit ping 1", "1:11 Syntax"),
+        ("emit pair", "1:10 Syntax"),
+        ("onevent end", "1:9 Syntax"),
+        ("x = (1", "1:7 Syntax"),
+        ("var x\nx = 1\nvar y", "3:1 Syntax"),
     ];
+    all_refused(rt.alloc(), &rt, &texts)
+}
+
+#[test]
+fn a_text_that_is_nested_too_deep(rt: HostRuntime) -> Result<(), Fail> {
+    let opened = repeated(rt.alloc(), "var x\nx = ", "(", 65)?;
+    let closed = repeated(rt.alloc(), "1", ")", 65)?;
+    let text = format!(in rt.alloc(); "{opened}{closed}\n")?;
+    let texts = [(text.as_str(), "2:69 TooDeep")];
     all_refused(rt.alloc(), &rt, &texts)
 }
 
@@ -209,6 +225,39 @@ fn loops_and_subroutines(rt: HostRuntime) -> Result<(), Fail> {
         ),
     ];
     all_run(rt.alloc(), &rt, &runs)
+}
+
+#[test]
+fn whens_and_both_sides_of_and(rt: HostRuntime) -> Result<(), Fail> {
+    let runs = [
+        (
+            "var n\nvar i\nfor i in 0:3 do\nwhen i > 0 do\nn++\nend\nend",
+            "100",
+            "code 0003 ffff 0003 1000 4023 3023 1003 a00f 000f 3023 1000 a10c 0006 3022 1001 8002 4022 3023 1001 8002 4023 9ff0 0000\nvar n 1\nvar i 4\nend 100 20\n",
+        ),
+        (
+            "var a[2]\nvar i = 2\nif i < 2 and a[i] == 1 then\nend",
+            "20",
+            "code 0003 ffff 0003 1002 4024 3024 1002 800e 3024 5022 0002 1001 800a a011 0002 0000\n6 2 bounds 3 2 2\nvar a 0 0\nvar i 2\nend 20 2\n",
+        ),
+    ];
+    all_run(rt.alloc(), &rt, &runs)
+}
+
+#[test]
+fn half_a_vector_is_stored(rt: HostRuntime) -> Result<(), Fail> {
+    let text = "var a[2] = [1,2]\na = [a[1], a[0]]";
+    for (ticks, ending) in [
+        ("15", "\nvar a 1 2\nend 15 2\n"),
+        ("16", "\nvar a 2 2\nend 16 3\n"),
+        ("40", "\nvar a 2 1\nend 40 5\n"),
+    ] {
+        let code = "code 0003 ffff 0003 1001 4024 1002 4025 3024 4022 3025 4023 1001 5022 0002 4024 1000 5022 0002 4025 3024 4022 3025 4023 0000";
+        let written = format!(in rt.alloc(); "{code}{ending}")?;
+        let runs = [(text, ticks, written.as_str())];
+        all_run(rt.alloc(), &rt, &runs)?;
+    }
+    Ok(())
 }
 
 #[test]
@@ -277,6 +326,9 @@ fn faults(rt: HostRuntime) -> Result<(), Fail> {
         ("var a[3]\na[1 % 0] = 1", "2:5 ConstantDivision"),
         ("var i\nfor i in 0:3 step 0 do\nend", "2:19 ZeroStep"),
         ("var a[3]\na[-1] = 1", "2:1 IndexOut size 3 index -1"),
+        ("var a[3]\na[3] = 1", "2:1 IndexOut size 3 index 3"),
+        ("var a[2]\na = [1, 2, 3]", "2:3 BadSize want 2 got 3"),
+        ("x = 1", "1:1 Unknown"),
     ];
     all_refused(rt.alloc(), &rt, &texts)
 }
@@ -407,6 +459,38 @@ fn a_file_is_the_project(rt: HostRuntime) -> Result<(), Fail> {
         assert_eq!(rt; ran.number, 4);
         assert_eq!(rt; ran.err.bytes(), told.as_bytes());
     }
+    Ok(())
+}
+
+/// A project of so many words that a jump of one word doesn't reach all of them.
+const LARGE: &[u8] = b"node sim
+code 32767
+vars 1024
+stack 64
+id 1
+variable _id 1
+variable event.source 1
+variable event.args 32
+event ping 0
+";
+
+#[test]
+fn jumps_and_subroutines_of_large_code(rt: HostRuntime) -> Result<(), Fail> {
+    let text = b"var i\nfor i in 1:2 do\nend";
+    let ran = ran_for(rt.alloc(), "sim|p|x.aseba|30", LARGE, text)?;
+    assert_eq!(rt; ran.number, 0);
+    assert_eq!(rt;
+        ran.out.bytes(),
+        b"code 0003 ffff 0003 1001 4022 3022 1002 a00f 000a 3022 1001 8002 4022 1000 1000 a00b fff6 0000\nvar i 3\nend 30 9\n".as_slice()
+    );
+    let mut far = repeated(rt.alloc(), "var x\nsub a\n", "x = 1\n", 2046)?;
+    far.push_str("sub b\n")?;
+    let ran = ran_for(rt.alloc(), "sim|p|x.aseba|0", LARGE, far.as_bytes())?;
+    assert_eq!(rt; ran.number, 4);
+    assert_eq!(rt;
+        ran.err.bytes(),
+        b"aseba: refused 2049:5 SubroutineFar start 4096\n".as_slice()
+    );
     Ok(())
 }
 
