@@ -252,7 +252,8 @@ fn half_a_vector_is_stored(rt: HostRuntime) -> Result<(), Fail> {
         ("16", "\nvar a 2 2\nend 16 3\n"),
         ("40", "\nvar a 2 1\nend 40 5\n"),
     ] {
-        let code = "code 0003 ffff 0003 1001 4024 1002 4025 3024 4022 3025 4023 1001 5022 0002 4024 1000 5022 0002 4025 3024 4022 3025 4023 0000";
+        let code =
+            "code 0003 ffff 0003 1001 4024 1002 4025 3024 4022 3025 4023 1001 5022 0002 4024 1000 5022 0002 4025 3024 4022 3025 4023 0000";
         let written = format!(in rt.alloc(); "{code}{ending}")?;
         let runs = [(text, ticks, written.as_str())];
         all_run(rt.alloc(), &rt, &runs)?;
