@@ -6,4 +6,6 @@ mod checked;
 #[cfg(test)]
 mod compiled;
 #[cfg(test)]
+mod expanded;
+#[cfg(test)]
 mod faults;
