@@ -17,13 +17,7 @@ use std::test::Fail;
 fn project(alloc: Global, text: &[u8]) -> Result<Project, Fail>
     ensures { IfOk result InsideProject }
 {
-    small(read_project(alloc, text)?)
-}
-
-/// A project that keeps to the limits.
-pub fn small(project: Project) -> Result<Project, Fail>
-    ensures { IfOk result InsideProject }
-{
+    let project = read_project(alloc, text)?;
     if project.inside() {
         Ok(project)
     } else {
@@ -42,7 +36,7 @@ fn tree(alloc: Global, text: &[u8], project: &Project) -> Result<Source, Fail>
 }
 
 /// The answer for a source.
-pub fn answer(
+fn answer(
     alloc: Global,
     text: &[u8],
     project: &Project,

@@ -1,12 +1,8 @@
 //! Sources with their words, and refusals.
 use aseba_check::CheckError;
-use aseba_codegen::GenError;
 use aseba_compile::{Refusal, compile};
 use aseba_describe::default_project;
-use aseba_expand::ExpandError;
-use aseba_tree::{Pos, Project};
-use aseba_words::Mem;
-use std::alloc::Global;
+use aseba_tree::Pos;
 use std::test::Fail;
 
 #[test]
@@ -29,70 +25,17 @@ fn a_sum_is_compiled(rt: HostRuntime) -> Result<(), Fail> {
     Ok(())
 }
 
-/// Sources with the words of their plain code on a node of 2048 words.
-const WORDS: &[(&str, &[u16])] = &[
-    (
-        "var i\nfor i in 1:2 do\nend",
-        &[
-            3, 0xffff, 3, 0x1001, 0x4022, 0x3022, 0x1002, 0xa00f, 7, 0x3022, 0x1001, 0x8002,
-            0x4022, 0x9ff8, 0,
-        ],
-    ),
-    (
-        "var x\ncallsub s\nsub s\nx = 5",
-        &[3, 0xffff, 3, 0xd005, 0, 0x1005, 0x4022, 0xe000],
-    ),
-    (
-        "var x = 1\nonevent ping\nx = x + 1\nemit pong",
-        &[
-            5, 0xffff, 5, 0, 8, 0x1001, 0x4022, 0, 0x3022, 0x1001, 0x8002, 0x4022, 0xb001, 0, 0, 0,
-        ],
-    ),
-    (
-        "var a[2] = [1,2]\nonevent ping\na = [a[1], a[0]]",
-        &[
-            5, 0xffff, 5, 0, 14, 0x1001, 0x4024, 0x1002, 0x4025, 0x3024, 0x4022, 0x3025, 0x4023, 0,
-            0x1001, 0x5022, 2, 0x4024, 0x1000, 0x5022, 2, 0x4025, 0x3024, 0x4022, 0x3025, 0x4023,
-            0,
-        ],
-    ),
-    (
-        "var n\nonevent pair\nwhen event.args[0] == 1 do\nn += 1\nend",
-        &[
-            5, 0xffff, 5, 2, 6, 0, 0x1000, 0x5002, 32, 0x1001, 0xa10a, 6, 0x3022, 0x1001, 0x8002,
-            0x4022, 0,
-        ],
-    ),
-    (
-        "var a[2]\nvar b[2]\ncall math.div(a, a, [2, b[1]])",
-        &[
-            3, 0xffff, 3, 0x1002, 0x4026, 0x1001, 0x5024, 2, 0x4027, 0x2000, 0x22, 0x2000, 0x22,
-            0x2000, 0x26, 0x1002, 0xc006, 0,
-        ],
-    ),
-];
-
 #[test]
-fn each_form_has_its_words(rt: HostRuntime) -> Result<(), Fail> {
+fn a_loop_is_compiled(rt: HostRuntime) -> Result<(), Fail> {
     let project = default_project(rt.alloc())?;
-    for (text, words) in WORDS {
-        let Ok(program) = compile(rt.alloc(), text.as_bytes(), &project) else {
-            return Err(Fail::from("refused"));
-        };
-        assert_eq!(rt; program.image.words.as_slice(), *words, "{text}");
-    }
-    Ok(())
-}
-
-#[test]
-fn each_word_has_its_line(rt: HostRuntime) -> Result<(), Fail> {
-    let project = default_project(rt.alloc())?;
-    let text = b"var n\nonevent pair\nwhen event.args[0] == 1 do\nn += 1\nend";
-    let Ok(program) = compile(rt.alloc(), text, &project) else {
+    let Ok(program) = compile(rt.alloc(), b"var i\nfor i in 1:2 do\nend", &project) else {
         return Err(Fail::from("refused"));
     };
-    let lines = [0, 0, 0, 0, 0, 1, 3, 3, 3, 3, 3, 3, 4, 4, 4, 4, 2];
-    assert_eq!(rt; program.image.lines.as_slice(), lines.as_slice());
+    let words = [
+        3, 0xffff, 3, 0x1001, 0x4022, 0x3022, 0x1002, 0xa00f, 7, 0x3022, 0x1001, 0x8002, 0x4022,
+        0x9ff8, 0,
+    ];
+    assert_eq!(rt; program.image.words.as_slice(), words.as_slice());
     Ok(())
 }
 
@@ -130,66 +73,4 @@ fn faults_are_refused(rt: HostRuntime) -> Result<(), Fail> {
         Some(Refusal::Check(CheckError::VariablesFull { need, have }))
     );
     Ok(())
-}
-
-/// The default project with so many words.
-fn project_of(alloc: Global, code: u16) -> Result<Project, Mem> {
-    let mut project = default_project(alloc)?;
-    project.node.code = code;
-    Ok(project)
-}
-
-/// The refusal of a text on a node of so many words and its stack, if it is refused.
-fn refused(alloc: Global, text: &str, code: u16) -> Result<Option<Refusal>, Mem> {
-    let project = project_of(alloc, code)?;
-    if !project.inside() || text.len() > 1_000_000 {
-        return Ok(None);
-    }
-    Ok(compile(alloc, text.as_bytes(), &project).err())
-}
-
-/// A sum in so many pairs of parentheses, which takes two cells of the stack more than pairs.
-fn nested(alloc: Global, pairs: usize) -> Result<String, Mem> {
-    let mut text = String::from_str(alloc, "var x\nx = ")?;
-    for _ in 0..pairs {
-        text.push_str("x + (")?;
-    }
-    text.push_str("x + x")?;
-    for _ in 0..pairs {
-        text.push_str(")")?;
-    }
-    Ok(text)
-}
-
-#[test]
-fn too_large_is_refused(rt: HostRuntime) -> Result<(), Fail> {
-    let alloc = rt.alloc();
-    let sum = "var x = 1\nx = x + 1";
-    let vector = "var a[990]\na[1:989] = a[0:988]";
-    let deep = nested(alloc, 63)?;
-    for (text, code, want) in [
-        (sum, 9, words_are_full(10, 9)),
-        // eight times too long is refused before the cells are counted
-        (vector, 494, words_are_full(3960, 494)),
-        (vector, 495, cells_are_full(2013, 1024)),
-        (vector, 2048, cells_are_full(2013, 1024)),
-        (deep.as_str(), 133, words_are_full(134, 133)),
-        (deep.as_str(), 134, stack_is_full(65, 64)),
-    ] {
-        assert_eq!(rt; refused(alloc, text, code)?, Some(want), "{text}");
-    }
-    assert_eq!(rt; refused(alloc, sum, 10)?, None);
-    Ok(())
-}
-
-fn words_are_full(need: u64, have: u64) -> Refusal {
-    Refusal::Gen(GenError::CodeFull { need, have })
-}
-
-fn stack_is_full(need: u64, have: u64) -> Refusal {
-    Refusal::Gen(GenError::StackFull { need, have })
-}
-
-fn cells_are_full(need: u64, have: u64) -> Refusal {
-    Refusal::Expand(ExpandError::VariablesFull { need, have })
 }

@@ -6,6 +6,4 @@ mod checked;
 #[cfg(test)]
 mod compiled;
 #[cfg(test)]
-mod expanded;
-#[cfg(test)]
 mod faults;
