@@ -1,0 +1,6 @@
+pub mod Holds
+pub mod Joined
+pub mod Knows
+pub mod Merges
+pub mod Passes
+pub mod Views
