@@ -1,8 +1,6 @@
 -- Each step keeps the rule of a queue into which many push.
-use Rattle.std.proofs.Common.{◌≡◌, refl, sym, ap, ◌∙◌, subst, ℕ, ◌+◌, ◌^◌, ◌<◌, ◌≤◌, true, cond, List, [], ◌∷◌, ◌++◌, length, set, arith, append_assoc}
+use Rattle.std.proofs.Common.{◌≡◌, refl, sym, ap, subst, ℕ, ◌^◌, ◌<◌, true, cond, List, [], ◌∷◌, ◌++◌, length, set, arith, append_assoc}
 use Rattle.std.proofs.lemmas.List.{length_push}
-use mathlib.Core.Option.{some}
-use lib.ListN.{get_elem?}
 use Rattle.crossbeam_queue.specs.Fifo.{Pushes, Pops, Forks, Merges, Learns}
 use Rattle.aseba_queues.specs.declared.view.View.{View}
 use Rattle.aseba_queues.specs.Views.{first, working, spent, noted, owned, lessened, both}
@@ -12,7 +10,7 @@ use Rattle.aseba_queues.specs.Knows.{InKnows}
 use Rattle.aseba_queues.proofs.MergeLemmas.{merge_of_nothing}
 use Rattle.aseba_queues.proofs.ViewLemmas.{seated_first, seated_noted, seated_owned, seated_split, seated_both, merge_noted, merge_same, merge_split, merge_both, merge_whole}
 
-pub in_begins : {T : Type 0} → InHolds {T} [] (first ∷ [])
+pub in_begins : {T : Type 0} → InHolds {T = T} [] (first ∷ [])
 in_begins = record { owner = 0; popped = []; seated = seated_first; few = omega arith; merge = merge_of_nothing }
 
 pub in_pushes : {T : Type 0} (n pass : ℕ) (v : View T) (x : T) → 0 < v.parts → Pushes InHolds n pass v x (λ w. w ≡ noted x v)

@@ -1,12 +1,11 @@
 -- What follows of merges once all passes are joined.
-use Rattle.std.proofs.Common.{◌≡◌, refl, sym, ap, ◌∙◌, subst, ℕ, zero, suc, ◌+◌, ◌<◌, ◌≢◌, Bool, true, false, cond, List, [], ◌∷◌, ◌++◌, length, map, reverse, get_or, All, filter, arith}
+use Rattle.std.proofs.Common.{◌≡◌, refl, sym, ap, ◌∙◌, subst, ℕ, zero, suc, ◌≢◌, Bool, true, false, cond, List, [], ◌∷◌, ◌++◌, length, map, reverse, get_or, All, filter, arith}
 use Rattle.std.specs.Prelude.{IsPermutation}
 use Rattle.std.specs.List.{sum_by, AllPass}
 use Rattle.std.proofs.lemmas.List.{append-nil, length-append, length-reverse, reverse-append, reverse-reverse}
-use Rattle.std.proofs.lemmas.List.Elements.{All-nil, All-cons, All-head, All-tail, All-append, filter-append}
+use Rattle.std.proofs.lemmas.List.Elements.{All-nil, All-cons, All-head, All-tail, All-append, All-same, filter-append}
 use Rattle.std.proofs.lemmas.List.Sorted.{All-permutation, IsPermutation-refl, IsPermutation-sym, IsPermutation-trans, IsPermutation-cons, IsPermutation-middle, IsPermutation-map, sum_by-IsPermutation}
 use Rattle.std.proofs.lemmas.List.Sums.{sum_by-cons}
-use Rattle.aseba_queues.specs.declared.view.View.{View}
 use Rattle.aseba_queues.specs.Merges.{MergesBackwards, IsMerge}
 use Rattle.aseba_queues.specs.Joined.{IsAlone, TakenIsPushed, PushedIsTaken, SharesMerge, OneIsItself, LengthsAddUp, EachIsSo}
 use Rattle.aseba_queues.proofs.MergeLemmas.{permuted, with_empty, one_left}
@@ -22,11 +21,12 @@ pushed_is_taken {T} v items popped whole one =
 
 filter-reverse : {T : Type 0} (test : T → Bool) (items : List T) → filter test (reverse items) ≡ reverse (filter test items)
 filter-reverse test [] = refl
-filter-reverse {T} test (x ∷ items) = filter-append test (reverse items) (x ∷ []) ∙ by (test x)
+filter-reverse {T} test (x ∷ items) =
+    ap (filter test) (reverse-append (x ∷ []) items) ∙ filter-append test (reverse items) (x ∷ []) ∙ by (test x) (filter-reverse test items)
   where
-    by : (t : Bool) → filter test (reverse items) ++ cond t (x ∷ []) [] ≡ reverse (cond t (x ∷ filter test items) (filter test items))
-    by true = ap (λ (l : List T). l ++ x ∷ []) (filter-reverse test items)
-    by false = append-nil (filter test (reverse items)) ∙ filter-reverse test items
+    by : (t : Bool) → filter test (reverse items) ≡ reverse (filter test items) → filter test (reverse items) ++ cond t (x ∷ []) [] ≡ reverse (cond t (x ∷ filter test items) (filter test items))
+    by true rest = ap (λ (l : List T). l ++ x ∷ []) rest ∙ sym (reverse-append (x ∷ []) (filter test items))
+    by false rest = append-nil (filter test (reverse items)) ∙ rest
 
 shares_back : {T : Type 0} (test : T → Bool) (lists : List (List T)) (items : List T) → MergesBackwards lists items → MergesBackwards (map (filter test) lists) (filter test items)
 shares_back {T} test lists [] m = empty lists m
@@ -74,8 +74,7 @@ alone {T} (suc number) (list ∷ lists) others =
     let nothing : List T = [] in
     let this : List T = get_or lists number [] in
     let before = alone number lists (λ other apart. others (suc other) (λ e. apart (omega arith))) in
-    let none : list ≡ [] = others 0 (λ e. absurd (omega arith)) in
-    (
+    let none : list ≡ [] = others 0 (λ e. absurd (omega arith)) in (
       list ∷ before.0,
       IsPermutation-trans (nothing ∷ list ∷ lists) (list ∷ nothing ∷ lists) (this ∷ list ∷ before.0)
           (IsPermutation-middle (nothing ∷ []) list lists)
@@ -95,7 +94,7 @@ share_alone {T} test number lists items m only =
     let nothing : List T = [] in
     let a = alone number mapped (λ other apart. get_or-filter test lists other ∙ only other apart) in
     let one : get_or mapped number [] ≡ reverse (reverse (filter test items)) = one_left (nothing ∷ mapped) (reverse (filter test items)) (get_or mapped number []) a.0 a.1 a.2
-        (with_empty mapped (reverse (filter test items)) (shares_merge test lists items m)) in
+    (with_empty mapped (reverse (filter test items)) (shares_merge test lists items m)) in
     sym (sym (get_or-filter test lists number) ∙ one ∙ reverse-reverse (filter test items))
 
 pub taken_is_pushed : {T : Type 0} → TakenIsPushed T
@@ -113,12 +112,12 @@ lengths_back {T} lists (x ∷ earlier) m =
     let size : List T → ℕ = λ list. length list in
     let end : List T = m.0 ++ x ∷ [] in
     omega (
-        arith,
-        lengths_back (m.0 ∷ m.1) earlier m.3,
-        sum_by-IsPermutation size lists (end ∷ m.1) m.2,
-        sum_by-cons size end m.1,
-        sum_by-cons size m.0 m.1,
-        length-append m.0 (x ∷ []),
+      arith,
+      lengths_back (m.0 ∷ m.1) earlier m.3,
+      sum_by-IsPermutation size lists (end ∷ m.1) m.2,
+      sum_by-cons size end m.1,
+      sum_by-cons size m.0 m.1,
+      length-append m.0 (x ∷ []),
     )
 
 pub lengths_add_up : {T : Type 0} → LengthsAddUp T
@@ -136,6 +135,7 @@ each_back {T} test lists (x ∷ earlier) m all =
     front : (l : List T) (y : T) → All (λ (z : T). test z ≡ true) (l ++ y ∷ []) → All (λ (z : T). test z ≡ true) l
     front [] y h = All-nil (λ (z : T). test z ≡ true)
     front (z ∷ l) y h = All-cons (λ (u : T). test u ≡ true) z l (All-head (λ (u : T). test u ≡ true) z (l ++ y ∷ []) h) (front l y (All-tail (λ (u : T). test u ≡ true) z (l ++ y ∷ []) h))
+
     last : (l : List T) (y : T) → All (λ (z : T). test z ≡ true) (l ++ y ∷ []) → test y ≡ true
     last [] y h = All-head (λ (z : T). test z ≡ true) y [] h
     last (z ∷ l) y h = last l y (All-tail (λ (u : T). test u ≡ true) z (l ++ y ∷ []) h)
@@ -150,4 +150,4 @@ each_is_so {T} test lists items m all =
     turned [] h = All-nil (λ (z : T). test z ≡ true)
     turned (z ∷ l) h =
         let Passes : T → Type 0 = λ y. test y ≡ true in
-        All-append Passes (reverse l) (z ∷ []) (turned l (All-tail Passes z l h)) (All-cons Passes z [] (All-head Passes z l h) (All-nil Passes))
+        All-same Passes (reverse (z ∷ l)) (reverse l ++ z ∷ []) (reverse-append (z ∷ []) l) (All-append Passes (reverse l) (z ∷ []) (turned l (All-tail Passes z l h)) (All-cons Passes z [] (All-head Passes z l h) (All-nil Passes)))

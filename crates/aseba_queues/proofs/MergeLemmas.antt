@@ -1,11 +1,11 @@
 -- Merges of lists: the order of the lists doesn't matter, an empty list more doesn't either, and an item put at the end of a list is the last of the merge.
-use Rattle.std.proofs.Common.{◌≡◌, refl, sym, ap, ◌∙◌, subst, ℕ, zero, suc, ◌+◌, ◌<◌, ◌⊎◌, inl, inr, ⊎_elim, Bool, true, false, cond, List, [], ◌∷◌, ◌++◌, length, map, reverse, All, filter, arith, append_assoc}
+use Rattle.std.proofs.Common.{◌≡◌, refl, sym, ap, ◌∙◌, subst, ℕ, ◌⊎◌, inl, inr, List, [], ◌∷◌, ◌++◌, length, reverse, All, arith, append_assoc}
 use Rattle.std.specs.Prelude.{IsPermutation}
-use Rattle.std.specs.List.{sum_by, AllPass}
-use Rattle.std.proofs.lemmas.List.{append-nil, length-append, reverse-append, reverse-reverse}
-use Rattle.std.proofs.lemmas.List.Elements.{All-nil, All-cons, All-head, All-tail, All-append, filter-append}
-use Rattle.std.proofs.lemmas.List.Sorted.{All-permutation, IsPermutation-refl, IsPermutation-sym, IsPermutation-trans, IsPermutation-cons, IsPermutation-middle, IsPermutation-append_left, IsPermutation-append_right, IsPermutation-append_comm, IsPermutation-map, IsPermutation-to_front, length_permutation, sum_by-IsPermutation}
-use Rattle.std.proofs.lemmas.List.Sums.{sum_by-cons, sum_by-append}
+use Rattle.std.specs.List.{sum_by}
+use Rattle.std.proofs.lemmas.List.{length-append, reverse-append}
+use Rattle.std.proofs.lemmas.List.Elements.{All-nil, All-cons, All-head}
+use Rattle.std.proofs.lemmas.List.Sorted.{All-permutation, IsPermutation-refl, IsPermutation-sym, IsPermutation-trans, IsPermutation-cons, IsPermutation-middle, IsPermutation-append_left, IsPermutation-append_right, IsPermutation-append_comm, IsPermutation-to_front, sum_by-IsPermutation}
+use Rattle.std.proofs.lemmas.List.Sums.{sum_by-cons}
 use Rattle.aseba_queues.specs.Merges.{MergesBackwards, IsMerge}
 use Rattle.aseba_queues.specs.Views.{put}
 
@@ -23,8 +23,7 @@ pub with_empty : {T : Type 0} (lists : List (List T)) (items : List T) → Merge
 with_empty {T} lists [] m = All-cons (λ (list : List T). list ≡ []) [] lists refl m
 with_empty {T} lists (x ∷ earlier) m =
     let end : List T = m.0 ++ x ∷ [] in
-    let nothing : List T = [] in
-    (
+    let nothing : List T = [] in (
       m.0,
       nothing ∷ m.1,
       IsPermutation-trans (nothing ∷ lists) (nothing ∷ end ∷ m.1) (end ∷ nothing ∷ m.1) (IsPermutation-cons nothing lists (end ∷ m.1) m.2) (swapped nothing end m.1),
@@ -52,7 +51,7 @@ merge_with_empty {T} lists items m =
     let nothing : List T = [] in
     merge_permuted (nothing ∷ lists) (lists ++ nothing ∷ []) items (IsPermutation-sym (lists ++ nothing ∷ []) (nothing ∷ lists) (IsPermutation-to_front lists nothing)) (with_empty lists (reverse items) m)
 
-pub merge_of_nothing : {T : Type 0} → IsMerge {T} [] []
+pub merge_of_nothing : {T : Type 0} → IsMerge {T = T} [] []
 merge_of_nothing {T} = All-nil (λ (list : List T). list ≡ [])
 
 -- a part of the lists, moved to the front
@@ -84,10 +83,11 @@ one_left {T} lists (x ∷ earlier) list others p none m =
     let sums : sum_by size (end ∷ m.1) ≡ sum_by size (list ∷ others) = sum_by-IsPermutation size (list ∷ others) (end ∷ m.1) same in
     let rest : sum_by size m.1 ≡ 0 = omega (arith, sums, sum_by-cons size end m.1, sum_by-cons size list others, ap size is) in
     let before : m.0 ≡ reverse earlier = one_left (m.0 ∷ m.1) earlier m.0 m.1 (IsPermutation-refl (m.0 ∷ m.1)) rest m.3 in
-    sym is ∙ ap (λ (l : List T). l ++ x ∷ []) before
+    sym is ∙ ap (λ (l : List T). l ++ x ∷ []) before ∙ sym (reverse-append (x ∷ []) earlier)
   where
     weaker : (l : List T) (ls : List (List T)) → All (λ (other : List T). other ≡ []) ls → All (λ (other : List T). (other ≡ []) ⊎ (other ≡ l)) ls
     weaker l ls h k d in' = inl (h k d in')
+
     long : (e l front : List T) (y : T) → e ≡ front ++ y ∷ [] → (e ≡ []) ⊎ (e ≡ l) → e ≡ l
     long e l front y is (inl empty) = absurd (omega (arith, ap (λ (o : List T). length o) (sym is ∙ empty), length-append front (y ∷ [])))
     long e l front y is (inr same) = same

@@ -1,17 +1,14 @@
 -- Each step keeps the rule of a queue into which the owner pushes.
-use Rattle.std.proofs.Common.{◌≡◌, refl, sym, ap, ◌∙◌, subst, ℕ, ◌+◌, ◌<◌, ◌≤◌, true, cond, List, [], ◌∷◌, ◌++◌, length, set, arith, append_assoc}
-use mathlib.Core.Option.{some}
-use lib.ListN.{get_elem?}
+use Rattle.std.proofs.Common.{◌≡◌, refl, sym, ap, ◌∙◌, ℕ, ◌<◌, true, cond, List, [], ◌∷◌, ◌++◌, append_assoc}
 use Rattle.crossbeam_queue.specs.Fifo.{Pushes, Pops, Forks, Merges, Learns}
 use Rattle.aseba_queues.specs.declared.view.View.{View}
 use Rattle.aseba_queues.specs.Views.{first, working, spent, noted, owned, lessened, both}
-use Rattle.aseba_queues.specs.Merges.{IsMerge}
-use Rattle.aseba_queues.specs.Holds.{PortHolds, lists_of}
+use Rattle.aseba_queues.specs.Holds.{PortHolds}
 use Rattle.aseba_queues.specs.Knows.{PortKnows}
 use Rattle.aseba_queues.proofs.MergeLemmas.{merge_of_nothing}
 use Rattle.aseba_queues.proofs.ViewLemmas.{seated_first, seated_noted, seated_owned, seated_split, seated_both, merge_noted, merge_same, merge_split, merge_both, merge_whole}
 
-pub port_begins : {T : Type 0} → PortHolds {T} [] (first ∷ [])
+pub port_begins : {T : Type 0} → PortHolds {T = T} [] (first ∷ [])
 port_begins = record { owner = 0; pushed = []; popped = []; seated = seated_first; split = refl; merge = merge_of_nothing }
 
 pub port_pushes : {T : Type 0} (n pass : ℕ) (v : View T) (x : T) → v.owns ≡ true → Pushes PortHolds n pass v x (λ w. w ≡ owned x v)

@@ -1,16 +1,15 @@
 -- The views of a queue's passes, with one of them replaced: their parts, their lists, and that each of them fits.
-use Rattle.std.proofs.Common.{◌≡◌, ◌≢◌, refl, sym, ap, ◌∙◌, subst, ℕ, zero, suc, ◌+◌, ◌-◌, ◌<◌, ⊎_elim, Bool, true, false, cond, true≢false, List, [], ◌∷◌, ◌++◌, length, set, arith, append_assoc}
+use Rattle.std.proofs.Common.{◌≡◌, ◌≢◌, refl, sym, ap, ◌∙◌, subst, ℕ, zero, suc, ◌+◌, ◌<◌, ⊎_elim, Bool, true, false, cond, true≢false, List, [], ◌∷◌, ◌++◌, length, set, arith, append_assoc}
 use mathlib.Core.Option.{some, some-injective, some-ne-none}
 use lib.ListN.{get_elem?}
 use Rattle.std.specs.Prelude.{IsPermutation}
-use Rattle.std.specs.List.{flat_map, sum_by}
 use Rattle.std.proofs.lemmas.List.{append-nil, set_comm}
 use Rattle.std.proofs.lemmas.List.Concat.{flat_map-append}
 use Rattle.std.proofs.lemmas.List.Sums.{sum_by-cons, sum_by_push}
 use Rattle.std.proofs.lemmas.List.Sorted.{IsPermutation-refl, IsPermutation-sym, IsPermutation-trans, IsPermutation-append_left, IsPermutation-append_right, IsPermutation-append_comm, length_permutation}
 use Rattle.crossbeam_queue.proofs.Lists.{at_set, at_snoc, set_else}
 use Rattle.aseba_queues.specs.declared.view.View.{View}
-use Rattle.aseba_queues.specs.Views.{known, first, working, spent, put, noted, owned, lessened, beside, both, IsWhole}
+use Rattle.aseba_queues.specs.Views.{first, working, spent, put, noted, owned, lessened, beside, both}
 use Rattle.aseba_queues.specs.Holds.{lists_of, parts_of, Fits, Seated}
 use Rattle.aseba_queues.specs.Merges.{IsMerge}
 use Rattle.aseba_queues.proofs.MergeLemmas.{moved, merge_permuted, merge_put, merge_with_empty}
@@ -68,8 +67,8 @@ pub seated_noted : {T : Type 0} (owner : ℕ) (items : List T) (views : List (Vi
 seated_noted owner items views pass v x some_part seated at =
     let mine = seated.each pass v at in
     seated_set owner owner items items views pass v (noted x v) seated at refl
-        (record { owning = mine.owning; working = mine.working; idle = λ none. absurd (omega arith) })
-        (λ other u _ there. seated.each other u there)
+    (record { owning = mine.owning; working = mine.working; idle = λ none. absurd (omega arith) })
+    (λ other u _ there. seated.each other u there)
 
 -- where one pass owns, no other one does
 pub lone : {T : Type 0} (owner : ℕ) (items items' : List T) (pass other : ℕ) (v u : View T) → v.owns ≡ true → other ≢ pass → Fits owner items pass v → Fits owner items other u → (owner' : ℕ) → Fits owner' items' other u
@@ -105,8 +104,8 @@ seated_split {T} owner items views pass v more seated at =
     let vs : List (View T) = set views pass left in
     let mine = seated.each pass v at in
     let each : Each (Fits owner items) vs = each_set (Fits owner items) views pass left
-        (record { owning = mine.owning; working = mine.working; idle = λ none. absurd (omega arith) })
-        (λ other u _ there. seated.each other u there) in
+    (record { owning = mine.owning; working = mine.working; idle = λ none. absurd (omega arith) })
+    (λ other u _ there. seated.each other u there) in
     let new : Fits owner items (length vs) right = record { owning = λ p. absurd (true≢false (sym p)); working = λ _. refl; idle = λ none. absurd (omega arith) } in
     record {
       parts = omega (arith, sum_by_push count vs right, parts_set views pass v left at, seated.parts);
@@ -175,9 +174,9 @@ seated_both {T} owner items views pass other v w seated at apart at' =
       each = each_set (Fits (cond w.owns pass owner) items) vs other spent
           (record { owning = λ p. absurd (true≢false (sym p)); working = λ _. refl; idle = λ _. (refl, refl) })
           (λ j u far e. ⊎_elim
-              (λ (x : (j ≡ pass) × (b ≡ u)). subst (λ (y : ℕ × View T). Fits (cond w.owns pass owner) items y.0 y.1) (λ i. (sym x.0 i, x.1 i)) fits)
-              (λ (x : (j ≢ pass) × (get_elem? views j ≡ some u)). fits_beside owner items pass other j w u far theirs (seated.each j u x.1) w.owns refl)
-              (at_set views pass j b u e));
+          (λ (x : (j ≡ pass) × (b ≡ u)). subst (λ (y : ℕ × View T). Fits (cond w.owns pass owner) items y.0 y.1) (λ i. (sym x.0 i, x.1 i)) fits)
+          (λ (x : (j ≢ pass) × (get_elem? views j ≡ some u)). fits_beside owner items pass other j w u far theirs (seated.each j u x.1) w.owns refl)
+          (at_set views pass j b u e));
     }
 
 -- a join moves lists, and none is lost
@@ -193,13 +192,13 @@ lists_both {T} views pass other v w at apart at' =
     let final : IsPermutation (lists_of (set before pass b)) (b.many ++ k'.0) = k'.2 b in
     let step : IsPermutation k.0 (v.many ++ k'.0) = IsPermutation-trans k.0 (lists_of before) (v.many ++ k'.0) (IsPermutation-sym (lists_of before) k.0 (k.2 spent)) k'.1 in
     let all : IsPermutation (lists_of views) ((w.many ++ v.many) ++ k'.0) = rw (append_assoc w.many v.many k'.0)
-        (IsPermutation-trans (lists_of views) (w.many ++ k.0) (w.many ++ (v.many ++ k'.0)) k.1 (IsPermutation-append_right w.many k.0 (v.many ++ k'.0) step)) in
+    (IsPermutation-trans (lists_of views) (w.many ++ k.0) (w.many ++ (v.many ++ k'.0)) k.1 (IsPermutation-append_right w.many k.0 (v.many ++ k'.0) step)) in
     let mixed : IsPermutation ((w.many ++ v.many) ++ k'.0) (b.many ++ k'.0) = IsPermutation-append_left k'.0 (w.many ++ v.many) b.many (many_both v w w.owns) in
     let P : List (View T) → Type 0 = λ vs. IsPermutation (lists_of views) (lists_of vs) in
     subst P (set_comm views other pass spent b (λ e. back (sym e)))
-        (IsPermutation-trans (lists_of views) (b.many ++ k'.0) (lists_of (set before pass b))
-            (IsPermutation-trans (lists_of views) ((w.many ++ v.many) ++ k'.0) (b.many ++ k'.0) all mixed)
-            (IsPermutation-sym (lists_of (set before pass b)) (b.many ++ k'.0) final))
+    (IsPermutation-trans (lists_of views) (b.many ++ k'.0) (lists_of (set before pass b))
+    (IsPermutation-trans (lists_of views) ((w.many ++ v.many) ++ k'.0) (b.many ++ k'.0) all mixed)
+    (IsPermutation-sym (lists_of (set before pass b)) (b.many ++ k'.0) final))
 
 -- an item noted by one pass
 pub merge_noted : {T : Type 0} (views : List (View T)) (pass : ℕ) (v : View T) (x : T) (items : List T) → get_elem? views pass ≡ some v → IsMerge (lists_of views) items
@@ -208,7 +207,7 @@ merge_noted views pass v x items at m =
     let k = kept views pass v at in
     let w = noted x v in
     merge_permuted (put x v.many ++ k.0) (lists_of (set views pass w)) (items ++ x ∷ []) (IsPermutation-sym (lists_of (set views pass w)) (put x v.many ++ k.0) (k.2 w))
-        (merge_put x v.many k.0 items (merge_permuted (lists_of views) (v.many ++ k.0) items k.1 m))
+    (merge_put x v.many k.0 items (merge_permuted (lists_of views) (v.many ++ k.0) items k.1 m))
 
 -- a view with the same lists
 pub merge_same : {T : Type 0} (views : List (View T)) (pass : ℕ) (v w : View T) (items : List T) → get_elem? views pass ≡ some v → w.many ≡ v.many → IsMerge (lists_of views) items → IsMerge (lists_of (set views pass w)) items
@@ -247,11 +246,12 @@ merge_whole {T} owner mine views pass v items seated at whole m =
     nothing [] h = refl
     nothing (x ∷ xs) h = absurd (omega arith)
 
-pub seated_first : {T : Type 0} → Seated {T} 0 [] (first ∷ [])
+pub seated_first : {T : Type 0} → Seated {T = T} 0 [] (first ∷ [])
 seated_first {T} = record { parts = refl; each = begin }
   where
-    only : Fits {T} 0 [] 0 first
+    only : Fits {T = T} 0 [] 0 first
     only = record { owning = λ _. (refl, refl); working = λ _. refl; idle = λ none. absurd (omega arith) }
+
     begin : (pass : ℕ) (v : View T) → get_elem? (first ∷ []) pass ≡ some v → Fits 0 [] pass v
     begin zero v at = let P : View T → Type 0 = λ u. Fits 0 [] 0 u in subst P (some-injective first v at) only
     begin (suc pass) v at = absurd (some-ne-none v (sym at))

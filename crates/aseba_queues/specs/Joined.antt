@@ -1,5 +1,5 @@
 -- What follows once all passes of a queue are joined.
-use Rattle.std.specs.Prelude.{◌≡◌, ◌≢◌, ℕ, ◌+◌, Bool, true, List, [], ◌∷◌, ◌++◌, length, filter, map, slice_index_or}
+use Rattle.std.specs.Prelude.{◌≡◌, ◌≢◌, ℕ, Bool, List, [], ◌∷◌, ◌++◌, length, filter, map, slice_index_or}
 use Rattle.std.specs.List.{AllPass, sum_by}
 use Rattle.std.specs.Prelude.{All}
 use Rattle.aseba_queues.specs.declared.view.View.{View}

@@ -26,6 +26,7 @@ pub struct InPass<T> {
 
 impl<T> InQueue<T> {
     /// An empty queue of so many places, and its owner's pass, which has all parts.
+    #[tactic(auto, using(crate::proofs::InSteps::in_begins))]
     pub fn new(alloc: Global, places: usize) -> Result<(InQueue<T>, InPass<T>), AllocError>
         requires { 0 < places }
         ensures places { IfOk result (λ made. in_places made.0 ≡ places) }
@@ -83,6 +84,7 @@ impl<T> InQueue<T> {
     }
 
     /// A new pass with one of the pass's parts. The pass keeps at least one.
+    #[tactic(auto, using(crate::proofs::InSteps::in_forks))]
     pub fn split(&self, pass: &mut InPass<T>) -> InPass<T>
         requires queue { IsInPass self.now pass.old }
         requires parts { 1 < (in_view pass.old).parts }
@@ -97,6 +99,7 @@ impl<T> InQueue<T> {
 
     /// Takes another pass in, with its parts and its lists, each apart. Where that one is the
     /// owner's, the pass that stays is from then on.
+    #[tactic(auto, using(crate::proofs::InSteps::in_merges))]
     pub fn join(&self, pass: &mut InPass<T>, other: InPass<T>)
         requires queue { IsInPass self.now pass.old × IsInPass self.now other }
         ensures queue { IsSameInPass pass.old pass.new }

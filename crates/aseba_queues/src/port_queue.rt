@@ -3,8 +3,8 @@ ghost use Rattle.aseba_queues.specs.Knows.{PortMoment, PortWhole};
 ghost use Rattle.aseba_queues.specs.Passes.{IsPortPass, IsSamePortPass, port_places, port_view};
 ghost use Rattle.aseba_queues.specs.Views.{IsWhole, both, first, lessened, noted, owned, working};
 
-use crate::port_rule::{PortPop, PortPush, PortRule};
 use crate::parts::Parts;
+use crate::port_rule::{PortPop, PortPush, PortRule};
 use crate::view::View;
 use crossbeam_queue::{Pass, RuledArrayQueue};
 use std::alloc::{AllocError, Global};
@@ -26,6 +26,7 @@ pub struct PortPass<T> {
 
 impl<T> PortQueue<T> {
     /// An empty queue of so many places, and its owner's pass, which has all parts.
+    #[tactic(auto, using(crate::proofs::PortSteps::port_begins))]
     pub fn new(alloc: Global, places: usize) -> Result<(PortQueue<T>, PortPass<T>), AllocError>
         requires { 0 < places }
         ensures places { IfOk result (λ made. port_places made.0 ≡ places) }
@@ -83,6 +84,7 @@ impl<T> PortQueue<T> {
     }
 
     /// A new pass with one of the pass's parts. The pass keeps at least one.
+    #[tactic(auto, using(crate::proofs::PortSteps::port_forks))]
     pub fn split(&self, pass: &mut PortPass<T>) -> PortPass<T>
         requires queue { IsPortPass self.now pass.old }
         requires parts { 1 < (port_view pass.old).parts }
@@ -97,6 +99,7 @@ impl<T> PortQueue<T> {
 
     /// Takes another pass in, with its parts and its lists, each apart. Where that one is the
     /// owner's, the pass that stays is from then on.
+    #[tactic(auto, using(crate::proofs::PortSteps::port_merges))]
     pub fn join(&self, pass: &mut PortPass<T>, other: PortPass<T>)
         requires queue { IsPortPass self.now pass.old × IsPortPass self.now other }
         ensures queue { IsSamePortPass pass.old pass.new }
