@@ -51,6 +51,17 @@ fn answer(
     Ok(check(alloc, source, project))
 }
 
+/// A sound source that was checked.
+pub fn checked_in(alloc: Global, text: &[u8], project: &Project) -> Result<Checked, Fail>
+    requires { InsideProject project.now }
+    ensures { IfOk result (IsChecked project.now) }
+{
+    match answer(alloc, text, project)? {
+        Ok(checked) => Ok(checked),
+        Err(_) => Err(Fail::from("a sound source is refused")),
+    }
+}
+
 /// A node whose one variable takes 34 of so many cells.
 fn narrow(alloc: Global, cells: u16) -> Result<Project, Fail>
     ensures { IfOk result InsideProject }

@@ -6,4 +6,10 @@ mod checked;
 #[cfg(test)]
 mod compiled;
 #[cfg(test)]
+mod element_text;
+#[cfg(test)]
+mod expanded;
+#[cfg(test)]
 mod faults;
+#[cfg(test)]
+mod generated;
