@@ -1,0 +1,12 @@
+pub mod Consequences
+pub mod Happening
+pub mod Loops
+pub mod Made
+pub mod Pushes
+pub mod Queues
+pub mod Rooms
+pub mod Shares
+pub mod Snoc
+pub mod Standing
+pub mod ToldLaw
+pub mod WorkedRows

@@ -1,0 +1,10 @@
+pub mod Handed
+pub mod Hub
+pub mod Left
+pub mod Memory
+pub mod Port
+pub mod Queue
+pub mod Routed
+pub mod Rows
+pub mod Shown
+pub mod Told
