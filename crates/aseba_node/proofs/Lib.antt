@@ -1,0 +1,9 @@
+pub mod Hearing
+pub mod Listing
+pub mod Machines
+pub mod Results
+pub mod Rows
+pub mod Sayable
+pub mod Speaking
+pub mod Steps
+pub mod Turning
