@@ -1,0 +1,11 @@
+pub mod ActLaws
+pub mod EntriesDone
+pub mod EntryLaws
+pub mod FieldsRead
+pub mod Led
+pub mod LineTexts
+pub mod NameLaws
+pub mod RunTold
+pub mod ScriptLaws
+pub mod SpelledLaws
+pub mod TicksTold
