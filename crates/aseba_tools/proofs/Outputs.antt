@@ -1,9 +1,8 @@
--- What a run of a compiled text wrote is what the text means.
-use Rattle.std.proofs.Common.{◌≡◌, ℕ, suc, ◌+◌, ◌≤◌, List, [], ◌∷◌, ◌++◌, map, drop, length, sum_by, Option, ap, refl, sym, ◌∙◌, arith, length-append, inr}
+-- What is written for a compiled text is what is to be written for it.
+use Rattle.std.proofs.Common.{◌≡◌, ℕ, suc, ◌+◌, ◌≤◌, List, [], ◌∷◌, ◌++◌, map, drop, length, sum_by, ap, refl, sym, ◌∙◌, arith, length-append}
 use Rattle.std.specs.Prelude.{slice_index}
 use Rattle.std.proofs.lemmas.List.{drop-map, length-map}
 use Rattle.std.proofs.lemmas.List.Sums.{sum_by-cons}
-use Rattle.aseba_edge.specs.Sink.{Took, TookFirst}
 use Rattle.aseba_tree.specs.Code.{Sized, Project}
 use Rattle.aseba_tree.specs.declared.project.Project as code
 use Rattle.aseba_tree.specs.View.{project_view, sized_view, placed_view}
@@ -18,11 +17,10 @@ use Rattle.aseba_target.proofs.Started.{started_begun}
 use Rattle.aseba_tree.specs.declared.placed.Placed.{Placed}
 use Rattle.aseba_compile.specs.declared.program.Program.{Program}
 use Rattle.aseba_compile.specs.Answered.{IsProgram, IsCompiled}
-use Rattle.aseba_tools.specs.Meant.{IsMeant, IsMeantOf, Wrote, WroteFirst, RanText}
-use Rattle.aseba_tools.specs.SimText.{layout_with, own_places, code_line, told_text, sim_text}
-use Rattle.aseba_tools.specs.Unwritten.{status_of}
-use Rattle.aseba_tools.specs.declared.putting.Unwritten.{Unwritten}
-use Rattle.aseba_tools.specs.declared.putting.Unwritten.TheVariants.{WriteFault, Mem}
+use Rattle.aseba_tools.specs.CodeLine.{code_line}
+use Rattle.aseba_tools.specs.CodeWritten.{IsCodeOf}
+use Rattle.aseba_tools.specs.Meant.{IsMeant, IsMeantOf}
+use Rattle.aseba_tools.specs.SimText.{layout_with, own_places, told_text, sim_text}
 
 -- Places
 
@@ -76,20 +74,17 @@ meant source program ticks is =
       code = code;
     }
 
-meant-of : (project : Project) (text : List ℕ) (program : Program) (ticks : ℕ) → IsCompiled project text program → IsMeantOf project text ticks (sim_text project program ticks)
-meant-of project text program ticks c = record { source = c.source; only = c.only; sound = c.holds.sound; meant = meant (record { project = project; source = c.source }) program ticks c.holds }
+pub meant-of : (project : Project) (text : List ℕ) (program : Program) (ticks : ℕ) → IsCompiled project text program → IsMeantOf project text ticks (sim_text project program ticks)
+meant-of project text program ticks c = record { source = c.source; only = c.only; sound = c.holds.sound; holds = meant (record { project = project; source = c.source }) program ticks c.holds }
 
-module _ (project : Project) (text : List ℕ) (program : Program) (ticks : ℕ) (before after : Option (List ℕ)) (c : IsCompiled project text program) where
-  pub wrote : Took before (sim_text project program ticks) after → Wrote project text ticks before after
-  wrote took = record { written = sim_text project program ticks; meant = meant-of project text program ticks c; took = took }
-
-  wrote_first : TookFirst before (sim_text project program ticks) after → WroteFirst project text ticks before after
-  wrote_first took = record { written = sim_text project program ticks; meant = meant-of project text program ticks c; took = took }
-
-  -- how a run ended that wasn't written whole
-  pub ran_in_part : (unwritten : Unwritten) → TookFirst before (sim_text project program ticks) after → RanText project text ticks before after (status_of unwritten)
-  ran_in_part WriteFault took = wrote_first took
-  ran_in_part Mem took = inr (wrote_first took)
+-- the line of its words
+pub code-of : (project : Project) (text : List ℕ) (program : Program) → IsCompiled project text program → IsCodeOf project text (code_line program.image.words)
+code-of project text program c = record {
+  source = c.source;
+  only = c.only;
+  sound = c.holds.sound;
+  holds = record { words = program.image.words; are_words = c.holds.words; lines = program.image.lines; code = c.holds.code.code; text_is = refl };
+}
 
 -- a compiled text has places of all variables of the node
 pub node_placed : (project : code.Project) (text : List ℕ) (program : Program) → IsCompiled (project_view project) text program → length project.node.variables ≤ length program.places

@@ -1,7 +1,10 @@
+pub mod CodeLine
+pub mod CodeWritten
 pub mod Command
 pub mod DumpText
 pub mod Dumped
 pub mod FileText
+pub mod Given
 pub mod Meant
 pub mod Outcome
 pub mod Page
@@ -12,3 +15,4 @@ pub mod StatusText
 pub mod StreamEnd
 pub mod Unwritten
 pub mod Words
+pub mod Written

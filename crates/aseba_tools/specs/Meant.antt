@@ -1,23 +1,16 @@
--- What `sim` is to write for the text of a source, and why it writes nothing.
-use Rattle.std.specs.Prelude.{◌≡◌, ℕ, ◌<◌, ◌≤◌, Bool, All, ◌⊎◌, List, [], ◌++◌, length, map, slice_index, Option}
-use Rattle.aseba_edge.specs.Sink.{Took, TookFirst}
-use Rattle.aseba_tree.specs.Code.{Project, Source}
+-- What `sim` is to write for the text of a source.
+use Rattle.std.specs.Prelude.{◌≡◌, ℕ, ◌<◌, ◌≤◌, Bool, All, List, [], ◌++◌, length, map, slice_index}
+use Rattle.aseba_tree.specs.Code.{Project}
 use Rattle.aseba_tree.specs.Line.{Line, line_by, lines_text}
 use Rattle.aseba_tree.specs.Run.{Paced}
 use Rattle.aseba_tree.specs.Lines.{source_lines, source_moments, SourceCallsKnown}
 use Rattle.aseba_tree.specs.Numbers.{source_weight}
 use Rattle.aseba_tree.specs.State.{Program}
-use Rattle.aseba_tree.specs.Soundness.{Sound}
 use Rattle.aseba_target.specs.Node.{layout_of, started}
 use Rattle.aseba_target.specs.MachineRun.{machine_lines, machine_beats}
-use Rattle.aseba_compile.specs.declared.refusal.Refusal.{Refusal}
-use Rattle.aseba_compile.specs.declared.refusal.Refusal.TheVariants.{Mem}
-use Rattle.aseba_compile.specs.Answered.{IsRefused}
 use Rattle.aseba_compile.specs.Compiled.{Compiled}
-use Rattle.aseba_compile.specs.Reading.{IsOnlyTree}
-use Rattle.aseba_tools.specs.SimText.{code_line}
-use Rattle.aseba_tools.specs.declared.status.Status.{Status}
-use Rattle.aseba_tools.specs.declared.status.Status.TheVariants.{Done, Refused, WriteFault, Memory}
+use Rattle.aseba_tools.specs.CodeLine.{code_line}
+use Rattle.aseba_tools.specs.Written.{OfSoundTree}
 
 -- the ticks that are effects of some words in the node's empty code
 abbrev pub effects_of : Program → List ℕ → ℕ → List Bool
@@ -42,34 +35,6 @@ pub record IsMeant (program : Program) (ticks : ℕ) (text : List ℕ) : Type 0 
   pub means : SourceCallsKnown program [] (effects_of program words ticks) → TellsMeaning program (effects_of program words ticks) told
   pub code : Compiled program words lines
 
--- the text of a run of the one tree that a source's text spells, which is sound
-pub record IsMeantOf (project : Project) (text : List ℕ) (ticks : ℕ) (written : List ℕ) : Type 0 where
-  pub source : Source
-  pub only : IsOnlyTree project text source
-  pub sound : Sound (record { project = project; source = source })
-  pub meant : IsMeant (record { project = project; source = source }) ticks written
-
--- all of it was written
-pub record Wrote (project : Project) (text : List ℕ) (ticks : ℕ) (before after : Option (List ℕ)) : Type 0 where
-  pub written : List ℕ
-  pub meant : IsMeantOf project text ticks written
-  pub took : Took before written after
-
--- the first bytes of it were written, and no others
-pub record WroteFirst (project : Project) (text : List ℕ) (ticks : ℕ) (before after : Option (List ℕ)) : Type 0 where
-  pub written : List ℕ
-  pub meant : IsMeantOf project text ticks written
-  pub took : TookFirst before written after
-
--- why the text is refused; want of memory is no such reason, since it has a status of its own
-abbrev pub IsReason : Project → List ℕ → Refusal → Type 0
-IsReason project text Mem = ⊥
-IsReason project text refusal = IsRefused project text refusal
-
--- How the text of a source was run, by the status. Where memory didn't suffice it may not have been compiled.
-abbrev pub RanText : Project → List ℕ → ℕ → (before after : Option (List ℕ)) → Status → Type 0
-RanText project text ticks before after Done = Wrote project text ticks before after
-RanText project text ticks before after (Refused refusal) = IsReason project text refusal × (after ≡ before)
-RanText project text ticks before after WriteFault = WroteFirst project text ticks before after
-RanText project text ticks before after Memory = (after ≡ before) ⊎ WroteFirst project text ticks before after
-RanText project text ticks before after _ = ⊥
+-- the text of a run of the one tree that a source's text spells
+abbrev pub IsMeantOf : Project → List ℕ → (ticks : ℕ) → (written : List ℕ) → Type 0
+IsMeantOf project text ticks written = OfSoundTree project text (λ program. IsMeant program ticks written)

@@ -1,8 +1,8 @@
 -- What `sim` writes.
-use Rattle.std.specs.Prelude.{◌≡◌, false, ℕ, ℤ, ◌++◌, codes, List, [], ◌∷◌, drop, map, length, slice_index}
+use Rattle.std.specs.Prelude.{◌≡◌, false, ℕ, ℤ, ◌++◌, List, [], ◌∷◌, drop, map, length, slice_index}
 use Rattle.aseba_tree.specs.Code.{Project}
 use Rattle.aseba_tree.specs.Layout.{placed_from, cells_at}
-use Rattle.aseba_tree.specs.Line.{Line, line_by, code_text, lines_text, var, end}
+use Rattle.aseba_tree.specs.Line.{Line, line_by, lines_text, var, end}
 use Rattle.aseba_vm.specs.State.{State}
 use Rattle.aseba_tree.specs.Layout as tree
 use Rattle.aseba_tree.specs.Run.{System, Run, begin, ticks, ticking, tick_lines, lines_from}
@@ -11,6 +11,7 @@ use Rattle.aseba_target.specs.MachineRun.{machine_system, machine_run, machine_l
 use Rattle.aseba_tree.specs.declared.placed.Placed.{Placed}
 use Rattle.aseba_compile.specs.declared.program.Program.{Program}
 use Rattle.aseba_tree.specs.View.{placed_view}
+use Rattle.aseba_tools.specs.CodeLine.{code_line}
 use Rattle.aseba_tools.specs.declared.lines.Moment.{Moment}
 
 -- the places of a program's variables, which stand behind those of the node
@@ -68,10 +69,6 @@ ending_text own cells moment = lines_text (var_lines cells (map placed_view own)
 -- what a run of so many ticks tells and leaves
 abbrev pub run_text : Project → Program → ℕ → State → List ℕ
 run_text project program n machine = told_text program.image.lines (machine_lines project (layout_with project program) machine [] n)
-
--- the line of the words
-abbrev pub code_line : List ℕ → List ℕ
-code_line words = code_text words ++ codes "\n"
 
 -- the line of the words, and then the lines of the machine's run of them
 abbrev pub sim_text : Project → Program → ℕ → List ℕ

@@ -15,3 +15,8 @@ is_write_fault (Err Mem) = false
 abbrev pub status_of : Unwritten → Status
 status_of WriteFault = status.WriteFault
 status_of Mem = status.Memory
+
+-- the status of a call that wrote a text, whole or not
+abbrev pub ended_by : {T : Type 0} → Result T Unwritten → Status
+ended_by (Ok _) = status.Done
+ended_by (Err unwritten) = status_of unwritten

@@ -8,6 +8,7 @@ ghost use Rattle.aseba_tools.specs.Command as spec;
 ghost use Rattle.aseba_tools.specs.Outcome.{is_read_fault, is_write_fault};
 ghost use Rattle.aseba_tools.specs.Words.{Unread, app, word_view};
 
+use crate::compile::compile;
 use crate::dump::dump;
 use crate::sim::sim;
 use crate::status::Status;
@@ -172,6 +173,7 @@ impl Command<'_> {
     {
         match self {
             Command::Sim { script, .. } => script.is_none(),
+            Command::Compile { .. } => true,
             Command::Dump {
                 target,
                 project,
@@ -300,6 +302,7 @@ pub fn do_command<F: Files, S: Sink>(
             ticks,
             ..
         } => sim(alloc, project, source, ticks, files, out),
+        Command::Compile { project, source } => compile(alloc, project, source, files, out),
         Command::Dump { target, .. } => dump(alloc, target, files, out),
         _ => unreachable!(),
     }

@@ -2,9 +2,11 @@
 #![tactic(auto)]
 
 mod command;
+mod compile;
 mod dump;
 mod file;
 mod frames;
+mod given;
 mod lines;
 mod natives;
 mod project;

@@ -7,7 +7,8 @@ ghost use Rattle.aseba_vm.specs.declared.tick.Tick.TheVariants.{Sent};
 ghost use Rattle.aseba_target.specs.MachineRun.{tick_report};
 ghost use Rattle.aseba_tree.specs.Events.{event_of};
 ghost use Rattle.aseba_tree.specs.View.{project_view, placed_view};
-ghost use Rattle.aseba_tools.specs.SimText.{code_line, told_text, var_lines};
+ghost use Rattle.aseba_tools.specs.CodeLine.{code_line};
+ghost use Rattle.aseba_tools.specs.SimText.{told_text, var_lines};
 
 use aseba_check::Placed;
 use aseba_text::Text;

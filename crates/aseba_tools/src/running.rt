@@ -9,11 +9,11 @@ ghost use Rattle.aseba_target.specs.MachineRun.{is_effect};
 ghost use Rattle.aseba_target.specs.Node.{started};
 ghost use Rattle.aseba_tools.specs.Unwritten.{is_write_fault};
 ghost use Rattle.aseba_tree.specs.View.{placed_view, project_view};
-ghost use Rattle.aseba_tools.specs.SimText.{after_tick, after_ticks, code_line, end_text, ending_text, own_places, run_text, sim_text, tick_text, ticks_text, var_lines, IsAt};
+ghost use Rattle.aseba_tools.specs.SimText.{after_tick, after_ticks, end_text, ending_text, own_places, run_text, sim_text, tick_text, ticks_text, var_lines, IsAt};
 ghost use Rattle.aseba_tree.specs.Inside.{InsideProject};
 
-use crate::lines::{Moment, end_line, notice_line, var_line, words_line};
-use crate::putting::{Unwritten, put_text};
+use crate::lines::{Moment, end_line, notice_line, var_line};
+use crate::putting::{Unwritten, put_code, put_text};
 use aseba_check::Placed;
 use aseba_compile::Program;
 use aseba_edge::Sink;
@@ -137,17 +137,6 @@ fn put_end<S: Sink>(alloc: Global, end: Moment, out: &mut S) -> Result<(), Unwri
     ensures count { Counts (is_write_fault result) (S.faults out.old) (S.faults out.new) }
 {
     let line = end_line(alloc, end)?;
-    put_text(out, &line)
-}
-
-/// Writes the line of the words.
-#[tactic(auto, using(aseba_edge::proofs::Puts::put_steps))]
-fn put_code<S: Sink>(alloc: Global, words: &[u16], out: &mut S) -> Result<(), Unwritten>
-    ensures whole { OnOk result (Took (S.taken out.old) (code_line words.now) (S.taken out.new)) }
-    ensures part { OnErr result (TookFirst (S.taken out.old) (code_line words.now) (S.taken out.new)) }
-    ensures count { Counts (is_write_fault result) (S.faults out.old) (S.faults out.new) }
-{
-    let line = words_line(alloc, words)?;
     put_text(out, &line)
 }
 

@@ -549,6 +549,86 @@ fn an_err_that_fails_has_the_first_bytes(rt: HostRuntime) -> Result<(), Fail> {
     Ok(())
 }
 
+#[test]
+fn codes_are_written(rt: HostRuntime) -> Result<(), Fail> {
+    for (text, written) in [
+        ("", "code 0003 ffff 0003 0000\n"),
+        (
+            "var i\nfor i in 1:2 do\nend",
+            "code 0003 ffff 0003 1001 4022 3022 1002 a00f 0007 3022 1001 8002 4022 9ff8 0000\n",
+        ),
+        (
+            "var x\ncallsub s\nsub s\nx = 5",
+            "code 0003 ffff 0003 d005 0000 1005 4022 e000\n",
+        ),
+        (
+            "var x = 1\nonevent ping\nx = x + 1\nemit pong",
+            "code 0005 ffff 0005 0000 0008 1001 4022 0000 3022 1001 8002 4022 b001 0000 0000 0000\n",
+        ),
+    ] {
+        let ran = ran_with(
+            rt.alloc(),
+            "compile|default|x.aseba",
+            text.as_bytes(),
+            0,
+            1000,
+        )?;
+        assert_eq!(rt; ran.number, 0, "{text}");
+        assert_eq!(rt; ran.out.bytes(), written.as_bytes(), "{text}");
+        assert_eq!(rt; ran.err.bytes(), b"".as_slice());
+    }
+    Ok(())
+}
+
+#[test]
+fn codes_that_are_not_written(rt: HostRuntime) -> Result<(), Fail> {
+    for (line, text, number, told) in [
+        (
+            "compile|default|x.aseba",
+            "x = 1",
+            4,
+            "aseba: refused 1:1 Unknown\n",
+        ),
+        (
+            "compile|default|x.aseba",
+            "x = 40000",
+            4,
+            "aseba: refused 1:5 BadNumber\n",
+        ),
+        (
+            "compile|default|x.aseba",
+            "var a[991]",
+            4,
+            "aseba: refused VariablesFull need 1025 have 1024\n",
+        ),
+        ("compile|default|missing", "", 2, "aseba: no file missing\n"),
+        (
+            "compile|x.aseba|missing",
+            "node 3\n",
+            5,
+            "aseba: project line 1\n",
+        ),
+    ] {
+        let ran = ran_with(rt.alloc(), line, text.as_bytes(), 0, 1000)?;
+        assert_eq!(rt; ran.number, number, "{line} {text}");
+        assert_eq!(rt; ran.out.bytes(), b"".as_slice());
+        assert_eq!(rt; ran.err.bytes(), told.as_bytes());
+    }
+    Ok(())
+}
+
+#[test]
+fn a_code_that_is_cut_short(rt: HostRuntime) -> Result<(), Fail> {
+    let whole = b"code 0003 ffff 0003 0000\n";
+    for room in 0..whole.len() {
+        let ran = ran_with(rt.alloc(), "compile|default|x.aseba", b"", 0, room)?;
+        assert_eq!(rt; ran.number, 7);
+        assert_eq!(rt; ran.out.bytes(), &whole[..room]);
+        assert_eq!(rt; ran.err.bytes(), b"aseba: write failed\n".as_slice());
+    }
+    Ok(())
+}
+
 /// Source 1, kind 1, and a payload of two words.
 const ONE: &[u8] = &[4, 0, 1, 0, 1, 0, 3, 0, 255, 255];
 

@@ -55,7 +55,7 @@ fn file(alloc: Global, name: &[u8], bytes: &[u8]) -> Result<MemoryFile, Mem> {
     })
 }
 
-/// Each line runs the empty source to its end, which is told with the line's number of ticks.
+/// Each line works on the empty source to its end, and writes this.
 fn all_run(alloc: Global, rt: &impl Abort, lines: &[&str], written: &[u8]) -> Result<(), Fail> {
     for line in lines {
         let ended = ran(alloc, line)?;
@@ -80,6 +80,16 @@ fn words_of_sim(rt: HostRuntime) -> Result<(), Fail> {
     ];
     all_run(alloc, &rt, lines, b"code 0003 ffff 0003 0000\nend 5 1\n")?;
     Ok(())
+}
+
+#[test]
+fn words_of_compile(rt: HostRuntime) -> Result<(), Fail> {
+    let lines: &[&str] = &[
+        "compile|default|x",
+        "compile|--|default|x",
+        "compile|default|x|--",
+    ];
+    all_run(rt.alloc(), &rt, lines, b"code 0003 ffff 0003 0000\n")
 }
 
 #[test]
@@ -160,6 +170,10 @@ fn words_that_no_tool_takes(rt: HostRuntime) -> Result<(), Fail> {
         "dump|f|--ra",
         "dump|f|-r",
         "dump|f|--|--raw",
+        "compile",
+        "compile|default",
+        "compile|default|x|5",
+        "compile|default|x|--script|f",
     ];
     all_refused(rt.alloc(), &rt, lines)
 }
@@ -184,7 +198,6 @@ fn words_that_are_no_number_of_ticks(rt: HostRuntime) -> Result<(), Fail> {
 fn words_of_what_is_not_there_yet(rt: HostRuntime) -> Result<(), Fail> {
     let lines: &[&str] = &[
         "sim|default|x|5|--script|f",
-        "compile|default|x",
         "node|default|tcp:localhost:33333|5",
         "dump|f",
         "dump|f|--raw|--project|default",

@@ -1,0 +1,47 @@
+-- The natives of a project that a machine can be made for are known.
+use Rattle.std.proofs.Common.{◌≡◌, refl, sym, ◌∙◌, ap, ℕ, zero, suc, ℤ, List, [], ◌∷◌, map, length, take, Some, option_map, unwrap_or, slice_get}
+use Rattle.std.proofs.lemmas.List.{take-map}
+use Rattle.std.proofs.lemmas.Option.{slice_get-map}
+use Rattle.aseba_words.specs.Natives.{natives, sizes}
+use Rattle.aseba_tree.specs.Code as tree
+use Rattle.aseba_tree.specs.Code.{Name}
+use Rattle.aseba_tree.specs.Step.{native_place, native_sizes, IsKnown}
+use Rattle.aseba_tree.specs.View.{native_view, param_view, project_view}
+use Rattle.aseba_tree.specs.declared.description.Native.{Native}
+use Rattle.aseba_tree.specs.declared.description.Param.{Param}
+use Rattle.aseba_tree.specs.declared.project.Project.{Project}
+use Rattle.aseba_tools.specs.ProjectWord.{Heading, AreFirst, headings, known_natives}
+use Rattle.aseba_tools.proofs.CallsThere.{IsThere}
+
+abbrev sizes_of : tree.Native → List ℤ
+sizes_of native = map (λ p. p.size) native.params
+
+same-params : (ps : List Param) → map (λ (p : tree.Param). p.size) (map param_view ps) ≡ map (λ (p : Param). p.size) ps
+same-params [] = refl
+same-params (p ∷ ps) = ap (λ rest. p.size ∷ rest) (same-params ps)
+
+same-sizes : (ns : List Native) → map sizes_of (map native_view ns) ≡ map (λ (h : Heading). h.sizes) (headings ns)
+same-sizes [] = refl
+same-sizes (n ∷ ns) = λ i. same-params n.params i ∷ same-sizes ns i
+
+-- they take what the first of the machine's natives take
+first-sizes : (ns : List Native) → AreFirst ns known_natives → map sizes_of (map native_view ns) ≡ take (length ns) (map sizes natives)
+first-sizes ns first =
+    let known : map (λ (h : Heading). h.sizes) (headings known_natives) ≡ map sizes natives = refl in
+    same-sizes ns ∙ ap (map (λ (h : Heading). h.sizes)) first ∙ sym (take-map (λ (h : Heading). h.sizes) (length ns) (headings known_natives)) ∙ ap (take (length ns)) known
+
+in-front : {X : Type 0} (n k : ℕ) (xs : List X) (x : X) → slice_get (take n xs) k ≡ Some x → slice_get xs k ≡ Some x
+in-front zero k xs x e = cc
+in-front (suc n) k [] x e = e
+in-front (suc n) zero (y ∷ ys) x e = e
+in-front (suc n) (suc k) (y ∷ ys) x e = in-front n k ys x e
+
+pub is-known : (project : Project) → AreFirst project.node.natives known_natives → (name : Name) → IsThere (project_view project) name → IsKnown (project_view project) name
+is-known project first name there =
+    let ns : List tree.Native = (project_view project).node.natives in
+    let place = native_place (project_view project) name in
+    let own : slice_get (map sizes_of ns) place ≡ Some (sizes_of there.native) = slice_get-map sizes_of ns place ∙ ap (option_map sizes_of) there.found in
+    let known : slice_get (map sizes natives) place ≡ Some (sizes_of there.native) =
+    in-front (length project.node.natives) place (map sizes natives) (sizes_of there.native) (ap (λ xs. slice_get xs place) (sym (first-sizes project.node.natives first)) ∙ own) in
+    let taken : native_sizes (project_view project) name ≡ sizes_of there.native = ap (λ o. unwrap_or (option_map sizes_of o) []) there.found in
+    sym (slice_get-map sizes natives place) ∙ known ∙ ap Some (sym taken)
