@@ -1,17 +1,25 @@
 -- The natives of a project that a machine can be made for are known.
-use Rattle.std.proofs.Common.{◌≡◌, refl, sym, ◌∙◌, ap, ℕ, zero, suc, ℤ, List, [], ◌∷◌, map, length, take, Some, option_map, unwrap_or, slice_get}
+use Rattle.std.proofs.Common.{◌≡◌, refl, sym, ◌∙◌, ap, ℕ, zero, suc, ℤ, List, [], ◌∷◌, map, length, take, Option, Some, option_map, unwrap_or, slice_get, subst, Bool, true, false}
+use Rattle.std.specs.Prelude.{MatchBool}
 use Rattle.std.proofs.lemmas.List.{take-map}
 use Rattle.std.proofs.lemmas.Option.{slice_get-map}
 use Rattle.aseba_words.specs.Natives.{natives, sizes}
 use Rattle.aseba_tree.specs.Code as tree
 use Rattle.aseba_tree.specs.Code.{Name}
+use Rattle.aseba_tree.specs.Lines.{SourceCallsKnown, source_moments}
+use Rattle.aseba_tree.specs.Run.{CallsKnown, Moment}
+use Rattle.aseba_tree.specs.Script.{Script}
+use Rattle.aseba_tree.specs.Soundness.{Sound}
+use Rattle.aseba_tree.specs.State.{Program}
 use Rattle.aseba_tree.specs.Step.{native_place, native_sizes, IsKnown}
 use Rattle.aseba_tree.specs.View.{native_view, param_view, project_view}
 use Rattle.aseba_tree.specs.declared.description.Native.{Native}
 use Rattle.aseba_tree.specs.declared.description.Param.{Param}
 use Rattle.aseba_tree.specs.declared.project.Project.{Project}
-use Rattle.aseba_tools.specs.ProjectWord.{Heading, AreFirst, headings, known_natives}
-use Rattle.aseba_tools.proofs.CallsThere.{IsThere}
+use Rattle.aseba_describe.specs.Defaults.{default_project}
+use Rattle.aseba_tools.specs.ProjectWord.{Heading, AreFirst, IsFileProject, IsProject, headings, is_default, known_natives}
+use Rattle.aseba_tools.proofs.CallsMade.{calls-made}
+use Rattle.aseba_tools.proofs.CallsThere.{IsThere, sound-calls}
 
 abbrev sizes_of : tree.Native → List ℤ
 sizes_of native = map (λ p. p.size) native.params
@@ -45,3 +53,22 @@ is-known project first name there =
     in-front (length project.node.natives) place (map sizes natives) (sizes_of there.native) (ap (λ xs. slice_get xs place) (sym (first-sizes project.node.natives first)) ∙ own) in
     let taken : native_sizes (project_view project) name ≡ sizes_of there.native = ap (λ o. unwrap_or (option_map sizes_of o) []) there.found in
     sym (slice_get-map sizes natives place) ∙ known ∙ ap Some (sym taken)
+
+-- they are of each project that a word names
+file-first : (held : Option (Option (List ℕ))) (project : Project) (b : Bool) → MatchBool b (project ≡ default_project) (IsFileProject held project) → AreFirst project.node.natives known_natives
+file-first held project true is = subst (λ (p : Project). AreFirst p.node.natives known_natives) (sym is) refl
+file-first held project false is = is.run.natives
+
+pub project-first : (word : List ℕ) (held : Option (Option (List ℕ))) (project : Project) → IsProject word held project → AreFirst project.node.natives known_natives
+project-first word held project is = file-first held project (is_default word) is
+
+-- all natives that a run of a sound source calls are known
+known-more : (P Q : Name → Type 0) (ticks : List Moment) → ((name : Name) → P name → Q name) → CallsKnown P ticks → CallsKnown Q ticks
+known-more P Q ticks f h = λ k d below name e. f name (h k d below name e)
+
+pub runs-known : (project : Project) → AreFirst project.node.natives known_natives → (source : tree.Source) → Sound (record { project = project_view project; source = source })
+    → (script : Script) (beats : List Bool) → SourceCallsKnown (record { project = project_view project; source = source }) script beats
+runs-known project first source sound script beats =
+    let program : Program = record { project = project_view project; source = source } in
+    known-more (IsThere program.project) (IsKnown program.project) (source_moments program script beats) (is-known project first)
+    (calls-made (IsThere program.project) program (sound-calls program sound) script beats)

@@ -1,10 +1,12 @@
 -- What is written for a compiled text is what is to be written for it.
-use Rattle.std.proofs.Common.{◌≡◌, ℕ, suc, ◌+◌, ◌≤◌, List, [], ◌∷◌, ◌++◌, map, drop, length, sum_by, ap, refl, sym, ◌∙◌, arith, length-append}
+use Rattle.std.proofs.Common.{◌≡◌, Bool, ℕ, suc, ◌+◌, ◌≤◌, List, [], ◌∷◌, ◌++◌, map, drop, length, sum_by, ap, refl, sym, ◌∙◌, arith, length-append}
 use Rattle.std.specs.Prelude.{slice_index}
 use Rattle.std.proofs.lemmas.List.{drop-map, length-map}
 use Rattle.std.proofs.lemmas.List.Sums.{sum_by-cons}
 use Rattle.aseba_tree.specs.Code.{Sized, Project}
 use Rattle.aseba_tree.specs.declared.project.Project as code
+use Rattle.aseba_tree.specs.Lines.{SourceCallsKnown}
+use Rattle.aseba_tree.specs.Script.{Script}
 use Rattle.aseba_tree.specs.View.{project_view, sized_view, placed_view}
 use Rattle.aseba_tree.specs.Line.{line_by}
 use Rattle.aseba_tree.specs.Layout as tree
@@ -19,7 +21,9 @@ use Rattle.aseba_compile.specs.declared.program.Program.{Program}
 use Rattle.aseba_compile.specs.Answered.{IsProgram, IsCompiled}
 use Rattle.aseba_tools.specs.CodeLine.{code_line}
 use Rattle.aseba_tools.specs.CodeWritten.{IsCodeOf}
-use Rattle.aseba_tools.specs.Meant.{IsMeant, IsMeantOf}
+use Rattle.aseba_tools.specs.Meant.{IsMeant, IsMeantOf, effects_of}
+use Rattle.aseba_tools.specs.ProjectWord.{AreFirst, known_natives}
+use Rattle.aseba_tools.proofs.NativesKnown.{runs-known}
 use Rattle.aseba_tools.specs.SimText.{layout_with, own_places, told_text, sim_text}
 
 -- Places
@@ -56,12 +60,13 @@ node-placed source program is =
 -- Texts
 
 -- what is written for a program of a source
-meant : (source : meaning.Program) (program : Program) (ticks : ℕ) → IsProgram source program → IsMeant source ticks (sim_text source.project program ticks)
-meant source program ticks is =
+meant : (source : meaning.Program) (program : Program) (ticks : ℕ) → ((script : Script) (beats : List Bool) → SourceCallsKnown source script beats) → IsProgram source program
+    → IsMeant source ticks (sim_text source.project program ticks)
+meant source program ticks known is =
     let words = program.image.words in
     let machine = started source.project words in
     let code = is.code.code in
-    let begun = started_begun source.project words code.sizes.fits in
+    let runs = code.runs machine [] ticks (record { started = started_begun source.project words code.sizes.fits; good = refl }) (known [] (effects_of source words ticks)) in
     record {
       words = words;
       are_words = is.words;
@@ -70,12 +75,18 @@ meant source program ticks is =
       told = map (line_by (slice_index program.image.lines)) (machine_lines source.project (layout_of source) machine [] ticks);
       tells = refl;
       text_is = ap (λ l. code_line words ++ told_text program.image.lines (machine_lines source.project l machine [] ticks)) (layouts source program is);
-      means = λ known. let runs = code.runs machine [] ticks (record { started = begun; good = refl }) known in record { lines = runs.lines_same; paced = runs.paced };
+      means = record { lines = runs.lines_same; paced = runs.paced };
       code = code;
     }
 
-pub meant-of : (project : Project) (text : List ℕ) (program : Program) (ticks : ℕ) → IsCompiled project text program → IsMeantOf project text ticks (sim_text project program ticks)
-meant-of project text program ticks c = record { source = c.source; only = c.only; sound = c.holds.sound; holds = meant (record { project = project; source = c.source }) program ticks c.holds }
+pub meant-of : (project : code.Project) (text : List ℕ) (program : Program) (ticks : ℕ) → AreFirst project.node.natives known_natives → IsCompiled (project_view project) text program
+    → IsMeantOf (project_view project) text ticks (sim_text (project_view project) program ticks)
+meant-of project text program ticks first c = record {
+  source = c.source;
+  only = c.only;
+  sound = c.holds.sound;
+  holds = meant (record { project = project_view project; source = c.source }) program ticks (runs-known project first c.source c.holds.sound) c.holds;
+}
 
 -- the line of its words
 pub code-of : (project : Project) (text : List ℕ) (program : Program) → IsCompiled project text program → IsCodeOf project text (code_line program.image.words)

@@ -3,7 +3,7 @@ use Rattle.std.specs.Prelude.{◌≡◌, ℕ, ◌<◌, ◌≤◌, Bool, All, Lis
 use Rattle.aseba_tree.specs.Code.{Project}
 use Rattle.aseba_tree.specs.Line.{Line, line_by, lines_text}
 use Rattle.aseba_tree.specs.Run.{Paced}
-use Rattle.aseba_tree.specs.Lines.{source_lines, source_moments, SourceCallsKnown}
+use Rattle.aseba_tree.specs.Lines.{source_lines, source_moments}
 use Rattle.aseba_tree.specs.Numbers.{source_weight}
 use Rattle.aseba_tree.specs.State.{Program}
 use Rattle.aseba_target.specs.Node.{layout_of, started}
@@ -22,8 +22,7 @@ pub record TellsMeaning (program : Program) (beats : List Bool) (told : List Lin
   pub paced : Paced (source_weight program) (source_moments program [] beats)
 
 -- The text of a run: the line of some words that fit the node, and then what the machine alone, without the source, tells of them, with a line of the source for
--- each place of the code. With these lines the words are code of the source, however long they run. As long as each native that is called is known, what is
--- told is what the source means.
+-- each place of the code. What is told is what the source means. With these lines the words are code of the source, however long they run.
 pub record IsMeant (program : Program) (ticks : ℕ) (text : List ℕ) : Type 0 where
   pub words : List ℕ
   pub are_words : All (λ word. word < 65536) words
@@ -32,7 +31,7 @@ pub record IsMeant (program : Program) (ticks : ℕ) (text : List ℕ) : Type 0 
   pub told : List Line
   pub tells : told ≡ map (line_by (slice_index lines)) (machine_lines program.project (layout_of program) (started program.project words) [] ticks)
   pub text_is : text ≡ code_line words ++ lines_text told
-  pub means : SourceCallsKnown program [] (effects_of program words ticks) → TellsMeaning program (effects_of program words ticks) told
+  pub means : TellsMeaning program (effects_of program words ticks) told
   pub code : Compiled program words lines
 
 -- the text of a run of the one tree that a source's text spells

@@ -8,6 +8,7 @@ ghost use Rattle.aseba_compile.specs.Answered.{IsCompiled};
 ghost use Rattle.aseba_tools.specs.FileText.{most_text};
 ghost use Rattle.aseba_tools.specs.Given.{AreGiven, NotGiven};
 ghost use Rattle.aseba_tools.specs.Outcome.{is_failed_read};
+ghost use Rattle.aseba_tools.specs.ProjectWord.{AreFirst, known_natives};
 ghost use Rattle.aseba_tools.specs.Written.{NoProgram};
 
 use crate::file::{MOST_TEXT, read_file};
@@ -36,6 +37,7 @@ pub fn read_given<F: Files>(
     ensures given { IfOk result (λ given. AreGiven word.now source.now (λ name. option_map (λ files. files name) (F.contents files.old)) given.project given.text) }
     ensures inside { IfOk result (λ given. InsideProject given.project) }
     ensures short { IfOk result (λ given. length given.text ≤ most_text) }
+    ensures natives { IfOk result (λ given. AreFirst given.project.node.natives known_natives) }
     ensures why { IfErr result (NotGiven word.now source.now (λ name. option_map (λ files. files name) (F.contents files.old))) }
     ensures read_fault { Counts (is_failed_read result) (F.faults files.old) (F.faults files.new) }
     ensures files { F.contents files.new ≡ F.contents files.old }

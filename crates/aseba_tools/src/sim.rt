@@ -7,6 +7,7 @@ ghost use Rattle.aseba_edge.specs.Counts.{Counts};
 ghost use Rattle.aseba_tools.specs.FileText.{most_text};
 ghost use Rattle.aseba_tools.specs.Meant.{IsMeantOf};
 ghost use Rattle.aseba_tools.specs.Outcome.{is_read_fault, is_write_fault};
+ghost use Rattle.aseba_tools.specs.ProjectWord.{AreFirst, known_natives};
 ghost use Rattle.aseba_tools.specs.Simulated.{Simulated};
 ghost use Rattle.aseba_tools.specs.Written.{Worked};
 
@@ -49,6 +50,7 @@ fn run_text<S: Sink>(
 ) -> Status
     requires inside { InsideProject project.now }
     requires short { length text.now ≤ most_text }
+    requires natives { AreFirst project.now.node.natives known_natives }
     ensures ran { Worked (project_view project.now) text.now (IsMeantOf (project_view project.now) text.now ticks) (S.taken out.old) (S.taken out.new) result }
     ensures no_read { is_read_fault result ≡ false }
     ensures write_fault { Counts (is_write_fault result) (S.faults out.old) (S.faults out.new) }

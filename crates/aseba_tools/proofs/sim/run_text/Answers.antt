@@ -15,7 +15,7 @@ returns-in-Ok-clause-ran g c =
     let project = project_view c.args.project.now in
     let text = c.args.text.now in
     subst (Worked project text (IsMeantOf project text c.args.ticks) (g.S.Sink.taken c.args.out.now) (g.S.Sink.taken c.simulate.new.out)) (sym c.status_of.ensures)
-    (worked project text (IsMeantOf project text c.args.ticks) _ _ c.simulate.result (sim_text project c.in-Ok.program c.args.ticks) (meant-of project text c.in-Ok.program c.args.ticks c.in-Ok.ensures.program) c.simulate.ensures.whole c.simulate.ensures.part)
+    (worked project text (IsMeantOf project text c.args.ticks) _ _ c.simulate.result (sim_text project c.in-Ok.program c.args.ticks) (meant-of c.args.project.now text c.in-Ok.program c.args.ticks c.requires.natives c.in-Ok.ensures.program) c.simulate.ensures.whole c.simulate.ensures.part)
 
 pub returns-in-Err-clause-ran : goal.returns-in-Err-clause-ran
 returns-in-Err-clause-ran g c =
