@@ -1,10 +1,9 @@
 -- What the threads of an exchange begin with, and what they end with.
-use Rattle.std.specs.Prelude.{◌≡◌, ℕ, List, [], All, map}
-use Rattle.std.specs.declared.vec.Vec.{Vec}
+use Rattle.std.specs.Prelude.{◌≡◌, ℕ, ◌<◌, List, [], length, map, slice_index_or}
 use Rattle.aseba_queues.specs.declared.in_queue.InQueue.{InQueue}
 use Rattle.aseba_queues.specs.Passes.{IsInPass, in_view}
 use Rattle.aseba_queues.specs.Views.{working}
-use Rattle.aseba_queue_tests.specs.declared.exchange.Producer.{Producer}
+use Rattle.aseba_queue_tests.specs.declared.producers.Producer.{Producer}
 use Rattle.aseba_queue_tests.specs.declared.item.Sent.{Sent}
 
 abbrev pub lists_of : List Producer → List (List Sent)
@@ -18,6 +17,7 @@ IsReady queue p = IsInPass queue p.pass × (in_view p.pass ≡ working [])
 abbrev pub IsDone : InQueue Sent → Producer → Type 0
 IsDone queue p = IsInPass queue p.pass × (in_view p.pass ≡ working p.items.items)
 
--- all have, and their items are those that they had
+-- each has, and its items are those that it had
 abbrev pub AreDone : InQueue Sent → List Producer → List Producer → Type 0
-AreDone queue old new = All (IsDone queue) new × (lists_of new ≡ lists_of old)
+AreDone queue old new = (length new ≡ length old)
+    × ((place : ℕ) (d e : Producer) → place < length old → IsDone queue (slice_index_or new place d) × ((slice_index_or new place d).items.items ≡ (slice_index_or old place e).items.items))

@@ -2,12 +2,12 @@
 //! and with eight threads that push into one queue.
 #![tactic(auto)]
 
-mod exchange;
 mod item;
 #[cfg(test)]
 mod one_thread;
+mod producers;
 #[cfg(test)]
 mod threads;
 
-pub use exchange::exchange;
 pub use item::Sent;
+pub use producers::exchange;

@@ -1,6 +1,6 @@
 //! Eight threads push into one queue, and another one pops.
-use crate::exchange::exchange;
 use crate::item::Sent;
+use crate::producers::exchange;
 use std::alloc::{AllocError, Global};
 use std::test::Fail;
 

@@ -1,5 +1,5 @@
 //! Many threads push and one pops: what comes is a merge of what was pushed.
-ghost use Rattle.std.specs.Prelude.{◌≡◌, ◌+◌, ◌-◌, ◌<◌, ◌^◌, ◌++◌, [], true, All, IfOk, IfSome, OnOk, length, map, vec_len};
+ghost use Rattle.std.specs.Prelude.{◌≡◌, ◌+◌, ◌-◌, ◌<◌, ◌^◌, ◌++◌, ◌∷◌, [], true, All, IfOk, OnOk, length, List, map, vec_len};
 ghost use Rattle.std.specs.List.{sum_by};
 ghost use Rattle.aseba_queues.specs.Merges.{IsMerge};
 ghost use Rattle.aseba_queues.specs.Passes.{IsInPass, in_view};
@@ -27,17 +27,17 @@ struct Producer {
 }
 
 /// How many items the lists have together, if these are few enough.
-fn count_of(lists: &[Vec<Sent>]) -> Option<usize>
-    ensures { IfSome result (λ count. (count < 2 ^ 61) × (count ≡ sum_by (λ list. vec_len list) lists.now)) }
+fn count_of(lists: &[Vec<Sent>]) -> Result<usize, AllocError>
+    ensures { IfOk result (λ count. (count < 2 ^ 61) × (count ≡ sum_by (λ list. vec_len list) lists.now)) }
 {
     let mut count: usize = 0;
     for list in lists {
         if list.len() > MOST - count {
-            return None;
+            return Err(AllocError);
         }
         count += list.len();
     }
-    Some(count)
+    Ok(count)
 }
 
 /// Gives each list a pass of its own.
@@ -100,6 +100,18 @@ fn push_each<R: Threads + Wait + Sync>(
     )
 }
 
+/// The same, seen as a whole.
+fn push_all_at_once<R: Threads + Wait + Sync>(
+    rt: &R,
+    queue: &InQueue<Sent>,
+    producers: Vec<Producer>,
+) -> Result<Vec<Producer>, AllocError>
+    requires { All (IsReady queue.now) producers.items }
+    ensures { IfOk result (λ done. All (IsDone queue.now) done.items × (lists_of done.items ≡ lists_of producers.items)) }
+{
+    push_each(rt, queue, producers)
+}
+
 /// Pops as many items as there is room for.
 fn pop_into<R: Wait>(rt: &R, queue: &InQueue<Sent>, owner: &mut InPass<Sent>, came: &mut [Sent])
     requires room { length came.old < 2 ^ 61 }
@@ -139,6 +151,17 @@ fn pop_all<R: Wait>(
     (owner, came)
 }
 
+/// Takes one pass in.
+#[tactic(auto, using(crate::proofs::Joining::joined_is))]
+fn take_in(queue: &InQueue<Sent>, owner: &mut InPass<Sent>, producer: Producer)
+    requires queue { IsInPass queue.now owner.old }
+    requires done { IsDone queue.now producer }
+    ensures queue { IsInPass queue.now owner.new }
+    ensures one { in_view owner.new ≡ known ((in_view owner.old).parts + 1) (in_view owner.old).owns ((in_view owner.old).many ++ producer.items.items ∷ []) (in_view owner.old).one }
+{
+    queue.join(owner, producer.pass);
+}
+
 /// Takes all passes in.
 fn gather(queue: &InQueue<Sent>, owner: &mut InPass<Sent>, done: Vec<Producer>)
     requires queue { IsInPass queue.now owner.old × ((in_view owner.old).many ≡ []) }
@@ -147,8 +170,50 @@ fn gather(queue: &InQueue<Sent>, owner: &mut InPass<Sent>, done: Vec<Producer>)
     ensures all { in_view owner.new ≡ known ((in_view owner.old).parts + vec_len done) (in_view owner.old).owns (lists_of done.items) (in_view owner.old).one }
 {
     for producer in done {
-        queue.join(owner, producer.pass);
+        take_in(queue, owner, producer);
     }
+}
+
+/// Takes all passes in. The owner has then all parts, and knows what was pushed.
+fn settle(queue: &InQueue<Sent>, mut owner: InPass<Sent>, done: Vec<Producer>)
+    requires queue { IsInPass queue.now owner }
+    requires owner { in_view owner ≡ known (1024 - vec_len done) true [] (in_view owner).one }
+    requires few { vec_len done < 1024 }
+    requires done { All (IsDone queue.now) done.items }
+    ensures { (items : List Sent) × IsMerge (lists_of done.items) ((in_view owner).one ++ items) }
+{
+    gather(queue, &mut owner, done);
+    queue.total(&mut owner);
+}
+
+/// Has all work at once: those that push, and the one that pops.
+fn run<R: Threads + Wait + Sync>(
+    rt: &R,
+    queue: &InQueue<Sent>,
+    owner: InPass<Sent>,
+    came: Vec<Sent>,
+    producers: Vec<Producer>,
+) -> Result<(InPass<Sent>, Vec<Sent>, Vec<Producer>), AllocError>
+    requires room { vec_len came < 2 ^ 61 }
+    requires queue { IsInPass queue.now owner × (in_view owner ≡ known (in_view owner).parts true [] []) }
+    requires ready { All (IsReady queue.now) producers.items }
+    ensures queue { IfOk result (λ r. IsInPass queue.now r.0) }
+    ensures came { IfOk result (λ r. in_view r.0 ≡ known (in_view owner).parts true [] r.1.items) }
+    ensures len { IfOk result (λ r. vec_len r.1 ≡ vec_len came) }
+    ensures done { IfOk result (λ r. All (IsDone queue.now) r.2.items × (lists_of r.2.items ≡ lists_of producers.items)) }
+{
+    let ((owner, came), done) = join(
+        rt,
+        move || -> (InPass<Sent>, Vec<Sent>)
+            requires { (vec_len came < 2 ^ 61) × IsInPass queue.now owner × (in_view owner ≡ known (in_view owner).parts true [] []) }
+            ensures { IsInPass queue.entry.now result.0 × (in_view result.0 ≡ known (in_view owner).parts true [] result.1.items) × (vec_len result.1 ≡ vec_len came) }
+        { pop_all(rt, queue, owner, came) },
+        move || -> Result<Vec<Producer>, AllocError>
+            requires { All (IsReady queue.now) producers.items }
+            ensures { IfOk result (λ done. All (IsDone queue.entry.now) done.items × (lists_of done.items ≡ lists_of producers.items)) }
+        { push_all_at_once(rt, queue, producers) },
+    );
+    Ok((owner, came, done?))
 }
 
 /// Each list is pushed by a thread of its own, and one thread pops all: what came is a merge of the
@@ -161,23 +226,11 @@ pub fn exchange<R: Threads + Wait + Sync>(
     requires { vec_len lists < 1024 }
     ensures { IfOk result (λ came. IsMerge (map (λ list. list.items) lists.items) came.items) }
 {
-    let count = count_of(lists.as_slice()).ok_or(AllocError)?;
+    let count = count_of(lists.as_slice())?;
     let came = Vec::from_elem(alloc, Sent { port: 0, number: 0 }, count)?;
     let (queue, mut owner) = InQueue::new(alloc, PLACES)?;
-    let queue = &queue;
-    let producers = ready(alloc, queue, &mut owner, lists)?;
-    let ((mut owner, came), done) = join(
-        rt,
-        move || -> (InPass<Sent>, Vec<Sent>)
-            requires { (vec_len came < 2 ^ 61) × IsInPass queue.now owner × (in_view owner ≡ known (in_view owner).parts true [] []) }
-            ensures { IsInPass queue.entry.now result.0 × (in_view result.0 ≡ known (in_view owner).parts true [] result.1.items) × (vec_len result.1 ≡ vec_len came) }
-        { pop_all(rt, queue, owner, came) },
-        move || -> Result<Vec<Producer>, AllocError>
-            requires { All (IsReady queue.now) producers.items }
-            ensures { IfOk result (λ done. AreDone queue.entry.now producers.items done.items) }
-        { push_each(rt, queue, producers) },
-    );
-    gather(queue, &mut owner, done?);
-    queue.total(&mut owner);
+    let producers = ready(alloc, &queue, &mut owner, lists)?;
+    let (owner, came, done) = run(rt, &queue, owner, came, producers)?;
+    settle(&queue, owner, done);
     Ok(came)
 }
