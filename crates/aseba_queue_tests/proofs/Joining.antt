@@ -8,8 +8,9 @@ use Rattle.std.proofs.lemmas.List.{append-nil, length-append, length-map, same_l
 use Rattle.aseba_queues.specs.declared.view.View.{View}
 use Rattle.aseba_queues.specs.declared.in_queue.InQueue.{InQueue}
 use Rattle.aseba_queues.specs.Merges.{IsMerge}
+use Rattle.aseba_queues.specs.Knows.{PortWhole}
 use Rattle.aseba_queues.specs.Views.{known, working, both, beside}
-use Rattle.aseba_queues.proofs.JoinedLaws.{lengths_add_up}
+use Rattle.aseba_queues.proofs.JoinedLaws.{lengths_add_up, pushed_is_taken}
 use Rattle.aseba_queue_tests.specs.Exchange.{AreDone, IsDone, lists_of}
 use Rattle.aseba_queue_tests.specs.declared.producers.Producer.{Producer}
 use Rattle.aseba_queue_tests.specs.declared.item.Sent.{Sent}
@@ -69,6 +70,10 @@ sum-items (list ∷ lists) =
       list.ok.0,
     )
 
+nothing : (l : List Sent) → length l ≡ 0 → l ≡ []
+nothing [] h = refl
+nothing (x ∷ xs) h = absurd (omega arith)
+
 -- where as many came as there were, all came
 pub all_came : (lists : List (Vec Sent Global)) (came items : List Sent) → IsMerge (map (λ (list : Vec Sent Global). list.items) lists) (came ++ items) → length came ≡ sum_by (λ (list : Vec Sent Global). vec_len list) lists
     → IsMerge (map (λ (list : Vec Sent Global). list.items) lists) came
@@ -77,13 +82,18 @@ all_came lists came items merge count =
     let P : List Sent → Type 0 = λ l. IsMerge all l in
     let none : length items ≡ 0 = omega (arith, lengths_add_up all (came ++ items) merge, sum-items lists, length-append came items, count) in
     subst P (ap (λ (l : List Sent). came ++ l) (nothing items none) ∙ append-nil came) merge
-  where
-    nothing : (l : List Sent) → length l ≡ 0 → l ≡ []
-    nothing [] h = refl
-    nothing (x ∷ xs) h = absurd (omega arith)
 
 pub exchanged : (lists : List (Vec Sent Global)) (done : List Producer) (parts : ℕ) (came items : List Sent) (v : View Sent) → IsMerge (lists_of done) (v.one ++ items) → v ≡ known parts true [] came
     → lists_of done ≡ map (λ (list : Vec Sent Global). list.items) lists → length came ≡ sum_by (λ (list : Vec Sent Global). vec_len list) lists → IsMerge (map (λ (list : Vec Sent Global). list.items) lists) came
 exchanged lists done parts came items v merge now same count =
     let P : List (List Sent) × List Sent → Type 0 = λ y. IsMerge y.0 (y.1 ++ items) in
     all_came lists came items (subst P (λ i. (same i, (ap (λ (u : View Sent). u.one) now) i)) merge) count
+
+-- as many items as the owner pushed came at the other pass: it is those
+pub relayed : (v w : View Sent) (items came : List Sent) → v ≡ known 1023 true [] items → w ≡ working came → (u : View Sent) → u ≡ both v w → (left : List Sent) × PortWhole u left → length came ≡ length items → came ≡ items
+relayed v w items came own other u now total count =
+    let is : u ≡ known 1024 true (came ∷ []) (items ++ []) = now ∙ (λ i. both (own i) (other i)) in
+    let one : u.one ≡ came ++ total.0 = pushed_is_taken u total.0 came total.1 (ap (λ (y : View Sent). y.many) is) in
+    let all : items ≡ came ++ total.0 = sym (append-nil items) ∙ sym (ap (λ (y : View Sent). y.one) is) ∙ one in
+    let none : length total.0 ≡ 0 = omega (arith, ap (λ (l : List Sent). length l) all, length-append came total.0, count) in
+    sym (all ∙ ap (λ (l : List Sent). came ++ l) (nothing total.0 none) ∙ append-nil came)

@@ -1,6 +1,7 @@
-//! Eight threads push into one queue, and another one pops.
+//! Eight threads push into one queue, and another one pops; one pushes, and another one pops.
 use crate::item::Sent;
 use crate::producers::exchange;
+use crate::relays::relay;
 use std::alloc::{AllocError, Global};
 use std::test::Fail;
 
@@ -29,7 +30,7 @@ fn are_in_order(came: &[Sent], port: u8) -> bool {
     let mut next = 0;
     for item in came {
         if item.port == port {
-            if item.number != next {
+            if next >= EACH || item.number != next {
                 return false;
             }
             next += 1;
@@ -59,5 +60,14 @@ fn one_list_comes_as_it_was_pushed(rt: HostRuntime) -> Result<(), Fail> {
     let came = exchange(&rt, rt.alloc(), lists)?;
     assert_eq!(rt; came.len(), 1000);
     assert!(rt; are_in_order(came.as_slice(), 3));
+    Ok(())
+}
+
+#[test]
+fn what_one_pops_is_what_the_owner_pushed(rt: HostRuntime) -> Result<(), Fail> {
+    let items = items_of(rt.alloc(), 5)?;
+    let came = relay(&rt, rt.alloc(), items.as_slice())?;
+    assert_eq!(rt; came.len(), 1000);
+    assert!(rt; are_in_order(came.as_slice(), 5));
     Ok(())
 }
