@@ -9,7 +9,7 @@ use Rattle.aseba_queues.specs.declared.view.View.{View}
 use Rattle.aseba_queues.specs.declared.in_queue.InQueue.{InQueue}
 use Rattle.aseba_queues.specs.Merges.{IsMerge}
 use Rattle.aseba_queues.specs.Knows.{PortWhole}
-use Rattle.aseba_queues.specs.Views.{known, working, both, beside}
+use Rattle.aseba_queues.specs.Views.{known, working, both}
 use Rattle.aseba_queues.proofs.JoinedLaws.{lengths_add_up, pushed_is_taken}
 use Rattle.aseba_queue_tests.specs.Exchange.{AreDone, IsDone, lists_of}
 use Rattle.aseba_queue_tests.specs.declared.producers.Producer.{Producer}
