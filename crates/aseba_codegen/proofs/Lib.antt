@@ -1,3 +1,4 @@
+pub mod AnswerRuns
 mod Apart
 mod Bases
 pub mod BitLaws
@@ -27,6 +28,7 @@ mod NativeNames
 mod NativeRuns
 mod NativeTicks
 mod NativeValues
+pub mod Nodes
 mod Outside
 mod PartOrder
 mod Placed

@@ -1,9 +1,10 @@
 -- The law of generated code: whatever arrives, and whatever stands behind the words in memory, the machine runs as the core does.
-use Rattle.std.specs.Prelude.{◌≡◌, ℕ, true, ◌++◌, IsTrue, Some, slice_get}
+use Rattle.std.specs.Prelude.{◌≡◌, ℕ, true, List, ◌++◌, IsTrue, Some, slice_get}
 use Rattle.aseba_tree.specs.Script.{Script}
 use Rattle.aseba_tree.specs.GoodScript.{is_good_script}
 use Rattle.aseba_tree.specs.Layout.{HasPlaces}
-use Rattle.aseba_tree.specs.Code.{Name}
+use Rattle.aseba_tree.specs.Code.{Name, Project, Sized}
+use Rattle.aseba_tree.specs.Core.{Core}
 use Rattle.aseba_tree.specs.Step.{IsKnown, native_place}
 use Rattle.aseba_tree.specs.CoreStep.{CoreProgram, CoreState}
 use Rattle.aseba_tree.specs.CoreRun.{core_next_native, core_system, core_run, core_moments}
@@ -54,3 +55,27 @@ CodeCalls =
     (program : CoreProgram) (layout : Layout) (m : State) (script : Script) (n : ℕ) → IsRun program layout m script → CoreCallsKnown program layout m script n
     → is_effect layout.cells (ticked (machine_before program layout m script n)).0 ≡ true
     → CallsAlike program (machine_before program layout m script n) (core_before program layout m script n)
+
+-- a core with the variables that its first cells are
+abbrev pub program_with : Project → Core → List Sized → CoreProgram
+program_with project core variables = record { project = project; variables = variables; core = core }
+
+-- What a run of some words asks, if they are code of a program whose node has room for it: places for the variables, a machine that was reset over code that begins
+-- with the words, and a script of which each entry is good.
+pub record IsRunOf (program : CoreProgram) (words : List ℕ) (layout : Layout) (m : State) (script : Script) : Type 0 where
+  pub laid : IsLaidOut program layout
+  pub places : HasPlaces program.project program.variables program.core.cells (layout.node ++ layout.own)
+  pub started : IsStarted program.project words m
+  pub good : IsTrue (is_good_script program.project program.variables script)
+
+-- The words run as the core does, whatever arrives, as long as each native that is called is known; and where the next tick is an effect, both call the same native or none.
+pub record RunAsCore (program : CoreProgram) (words : List ℕ) (layout : Layout) (m : State) (script : Script) (n : ℕ) : Type 0 where
+  pub runs : RunsAlike program layout m script n
+  pub calls : is_effect layout.cells (ticked (machine_before program layout m script n)).0 ≡ true
+      → CallsAlike program (machine_before program layout m script n) (core_before program layout m script n)
+
+-- So it is for all variables of the core, all scripts, and however many ticks.
+abbrev pub AlwaysRunAsCore : Project → Core → List ℕ → Type 0
+AlwaysRunAsCore project core words =
+    (variables : List Sized) (layout : Layout) (m : State) (script : Script) (n : ℕ) → IsRunOf (program_with project core variables) words layout m script
+    → CoreCallsKnown (program_with project core variables) layout m script n → RunAsCore (program_with project core variables) words layout m script n

@@ -1,4 +1,5 @@
 ghost use Rattle.std.specs.Prelude.{◌≡◌, ◌+◌, ◌≤◌, ◌<◌, ◌++◌, map, IfErr, IfOk, OnOk};
+ghost use Rattle.aseba_codegen.specs.CodeRuns.{AlwaysRunAsCore};
 ghost use Rattle.aseba_codegen.specs.Generated.{IsImage, TellsNeed};
 ghost use Rattle.aseba_codegen.specs.Words.{init_start, part_starts, handler_entries, table_of, bodies_code, on_line, core_code};
 ghost use Rattle.aseba_tree.specs.CoreNumbers.{core_table_words, core_words};
@@ -153,11 +154,12 @@ fn lines_of(alloc: Global, code: &[Coded]) -> Result<List<u32>, Mem>
 
 /// The code of a core for a project's node. It is refused only where its own words or stack cells
 /// are more than the node has; the errors tell what the core needs by its numbers, which then are
-/// more too.
+/// more too. Whatever arrives, the words run as the core does.
 pub fn generate(alloc: Global, core: &Core, project: &Project) -> Result<Image, GenError>
     requires inside { InsideProject project.now }
     requires core { IsCore (project_view project.now) (core_view core.now) }
     ensures image { IfOk result (λ image. IsImage (project_view project.now) (core_view core.now) image) }
+    ensures runs { IfOk result (λ image. AlwaysRunAsCore (project_view project.now) (core_view core.now) image.words) }
     ensures full { IfErr result (λ error. TellsNeed (project_view project.now) (core_view core.now) error) }
 {
     let have = u64::from(project.node.code);
@@ -174,6 +176,8 @@ pub fn generate(alloc: Global, core: &Core, project: &Project) -> Result<Image, 
             have,
         });
     }
+    // Read so that the proof knows that it has the range of its type.
+    let _id = project.id;
     let code = code_of(alloc, core, project)?;
     let words = words_of(alloc, code.as_slice())?;
     let lines = lines_of(alloc, code.as_slice())?;

@@ -1,5 +1,4 @@
 pub mod Codes
-pub mod Nodes
 pub mod OnlyTree
 pub mod Refusals
 pub mod Whens

@@ -2,7 +2,7 @@ use Rattle.std.proofs.Common.{◌<◌, ◌≤◌, ◌*◌, arith}
 use Rattle.aseba_tree.specs.Numbers.{source_words}
 use Rattle.aseba_tree.specs.View.{core_view}
 use Rattle.aseba_check.specs.Refused.{program_in}
-use Rattle.aseba_compile.proofs.Nodes.{node-inside}
+use Rattle.aseba_codegen.proofs.Nodes.{node-inside}
 use Rattle.aseba_compile.proofs.Refusals.{code-for}
 use Rattle.aseba_compile.proofs.passes.image_of.Goals as goal
 
