@@ -1,15 +1,12 @@
 pub mod Alike
 pub mod CallsMade
 pub mod CallsThere
-pub mod InRun
 pub mod Loading
 pub mod NativesKnown
 pub mod Outputs
 pub mod Pages
 pub mod Projects
-pub mod RunParts
 pub mod Streams
-pub mod Variables
 pub mod WordsFound
 pub mod Works
 pub mod Writing

@@ -84,7 +84,7 @@ names_link target = starts_with nat_eq target (codes "tcp:")
 
 -- what the program can do so far: the test gets shorter with each tool
 abbrev pub is_built : Command → Bool
-is_built (sim project source ticks script) = not (is_some script)
+is_built (sim project source ticks script) = true
 is_built (compile project source) = true
 is_built (dump target project raw) = raw && (not (is_some project) && not (names_link target))
 is_built _ = false
@@ -98,7 +98,7 @@ command_of words = option_and_then if_built (named words)
 
 -- why a command ended with a status, and what was written, over what the files hold under each name
 abbrev pub Does : Command → (files : List ℕ → Option (Option (List ℕ))) → (before after : Option (List ℕ)) → Status → Type 0
-Does (sim project source ticks script) files before after status = Simulated project source files ticks before after status
+Does (sim project source ticks script) files before after status = Simulated project source script files ticks before after status
 Does (compile project source) files before after status = CodeWritten project source files before after status
 Does (dump target project raw) files before after status = Dumped target (files target) before after status
 Does _ files before after status = ⊥

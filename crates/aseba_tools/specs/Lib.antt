@@ -9,6 +9,7 @@ pub mod Meant
 pub mod Outcome
 pub mod Page
 pub mod ProjectWord
+pub mod ScriptRead
 pub mod SimText
 pub mod Simulated
 pub mod StatusText

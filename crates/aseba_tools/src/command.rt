@@ -172,8 +172,7 @@ impl Command<'_> {
         ensures { result ≡ spec.is_built (command_view self.now) }
     {
         match self {
-            Command::Sim { script, .. } => script.is_none(),
-            Command::Compile { .. } => true,
+            Command::Sim { .. } | Command::Compile { .. } => true,
             Command::Dump {
                 target,
                 project,
@@ -300,8 +299,8 @@ pub fn do_command<F: Files, S: Sink>(
             project,
             source,
             ticks,
-            ..
-        } => sim(alloc, project, source, ticks, files, out),
+            script,
+        } => sim(alloc, project, source, script, ticks, files, out),
         Command::Compile { project, source } => compile(alloc, project, source, files, out),
         Command::Dump { target, .. } => dump(alloc, target, files, out),
         _ => unreachable!(),

@@ -11,9 +11,9 @@ ghost use Rattle.aseba_tools.specs.DumpText.{dump_lines_text, payload_text, raw_
 ghost use Rattle.aseba_tools.specs.DumpText.DumpLine.{rest as remains};
 ghost use Rattle.aseba_tools.specs.Page.{Gathered};
 ghost use Rattle.aseba_tools.specs.StreamEnd.{IsEndOf, end_lines};
-ghost use Rattle.aseba_tools.specs.Unwritten.{is_write_fault};
+ghost use Rattle.aseba_driver.specs.Unwritten.{is_write_fault};
 
-use crate::putting::{Unwritten, put_text};
+use aseba_driver::{Unwritten, put_text};
 use aseba_edge::Sink;
 use aseba_message::{Fed, Frame, FrameReader};
 use aseba_text::Text;

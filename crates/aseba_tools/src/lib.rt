@@ -4,14 +4,15 @@
 mod command;
 mod compile;
 mod dump;
+mod entries;
 mod file;
 mod frames;
 mod given;
-mod lines;
 mod natives;
 mod project;
 mod putting;
 mod running;
+pub mod script;
 mod sim;
 mod status;
 mod telling;

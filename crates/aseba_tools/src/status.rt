@@ -1,8 +1,8 @@
 ghost use Rattle.std.specs.Prelude.{◌≡◌};
 ghost use Rattle.aseba_tools.specs.StatusText.{HasShortHead, line_text, message_of, number_of};
 
-use crate::putting::Unwritten;
 use aseba_compile::Refusal;
+use aseba_driver::Unwritten;
 use aseba_words::{Mem, Name};
 
 /// How a call of a tool ended.

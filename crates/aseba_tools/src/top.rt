@@ -23,9 +23,10 @@ pub struct Ran<I, Q, O> {
 }
 
 /// Does what the words of a command line ask for, and tells on `err` how it ended. The words leave
-/// out the program's name. There are three tools so far, `sim PROJECT SOURCE TICKS`, `compile PROJECT
-/// SOURCE` and `dump FILE --raw`, which ask neither the dialer nor the clock for anything. Words that
-/// are no command of these are `Usage`; `Memory` may come wherever memory is taken, also to read words.
+/// out the program's name. There are three tools so far, `sim PROJECT SOURCE TICKS --script FILE`,
+/// `compile PROJECT SOURCE` and `dump FILE --raw`, which ask neither the dialer nor the clock for
+/// anything. Words that are no command of these are `Usage`; `Memory` may come wherever memory is
+/// taken, also to read words.
 pub fn run<F: Files, D: Dialer, S: Sink, E: Sink, C: Clock>(
     alloc: Global,
     words: &[String],

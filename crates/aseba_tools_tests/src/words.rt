@@ -79,6 +79,12 @@ fn words_of_sim(rt: HostRuntime) -> Result<(), Fail> {
         "sim|default|x|5|--",
     ];
     all_run(alloc, &rt, lines, b"code 0003 ffff 0003 0000\nend 5 1\n")?;
+    let lines: &[&str] = &[
+        "sim|default|x|5|--script|x",
+        "sim|--script=x|default|x|5",
+        "sim|--script|x|--|default|x|5",
+    ];
+    all_run(alloc, &rt, lines, b"code 0003 ffff 0003 0000\nend 5 1\n")?;
     Ok(())
 }
 
@@ -197,7 +203,6 @@ fn words_that_are_no_number_of_ticks(rt: HostRuntime) -> Result<(), Fail> {
 #[test]
 fn words_of_what_is_not_there_yet(rt: HostRuntime) -> Result<(), Fail> {
     let lines: &[&str] = &[
-        "sim|default|x|5|--script|f",
         "node|default|tcp:localhost:33333|5",
         "dump|f",
         "dump|f|--raw|--project|default",

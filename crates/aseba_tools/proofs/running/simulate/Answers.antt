@@ -11,12 +11,12 @@ returns-in_err-put_code-clause-part g c =
 
 pub returns-clause-whole : goal.returns-clause-whole
 returns-clause-whole g c =
-    on_ok_weaker c.put_run.result
+    on_ok_weaker c.drive.result
     (both_taken _ (g.S.Sink.taken c.put_code.new.out) _ _ _ _ refl (rw c.as_slice-words.ensures at c.in_ok-put_code.ensures.whole))
-    (rw (c.in_ok-machine.ensures, c.as_slice-words.ensures) at c.put_run.ensures.whole)
+    (rw (c.in_ok-machine.ensures, c.as_slice-words.ensures, c.as_slice-places.ensures, c.as_slice-lines.ensures) at c.drive.ensures.whole)
 
 pub returns-clause-part : goal.returns-clause-part
 returns-clause-part g c =
-    on_err_weaker c.put_run.result
+    on_err_weaker c.drive.result
     (cut_in_second _ (g.S.Sink.taken c.put_code.new.out) _ _ _ _ refl (rw c.as_slice-words.ensures at c.in_ok-put_code.ensures.whole))
-    (rw (c.in_ok-machine.ensures, c.as_slice-words.ensures) at c.put_run.ensures.part)
+    (rw (c.in_ok-machine.ensures, c.as_slice-words.ensures, c.as_slice-places.ensures, c.as_slice-lines.ensures) at c.drive.ensures.part)
