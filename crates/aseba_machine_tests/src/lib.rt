@@ -1,5 +1,9 @@
-//! Tests of the machine that runs words. It offers nothing.
+//! Tests of the machine that runs words, and of scripts through which it is driven. It offers nothing.
 #![tactic(auto)]
 
 #[cfg(test)]
+mod driven;
+#[cfg(test)]
 mod runs;
+#[cfg(test)]
+mod scripts;
