@@ -17,7 +17,12 @@ pub words-run : (project : Project) (core : Core) (words : List ℕ) → IsNode 
 words-run project core words node shape are fit deep variables layout m script n run known =
     let room : HasRoom project core = record { node = node; shape = shape; words = fit; deep = deep } in
     let whole : IsRun (program_with project core variables) layout m script = record {
-      room = room; laid = run.laid; places = run.places; started = subst (λ words. IsStarted project words m) are run.started; good = run.good } in
+      room = room;
+      laid = run.laid;
+      places = run.places;
+      started = subst (λ words. IsStarted project words m) are run.started;
+      good = run.good;
+    } in
     record {
       runs = code_runs (program_with project core variables) layout m script n whole known;
       calls = code_calls (program_with project core variables) layout m script n whole known;

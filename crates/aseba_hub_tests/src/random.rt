@@ -122,11 +122,13 @@ impl Game {
 
     /// The session of a port says a frame, if there is one.
     fn say(&mut self, alloc: Global, port: u16, kind: u16) -> Result<(), Mem> {
-        if let Some(Stay {
-            session,
-            is_in: true,
-            ..
-        }) = self.last(port)
+        if let Some(
+            Stay {
+                session,
+                is_in: true,
+                ..
+            },
+        ) = self.last(port)
         {
             self.hub.say(alloc, session, kind)?;
             self.deeds.push(Deed::Said(session, kind))?;
@@ -136,11 +138,13 @@ impl Game {
 
     /// The session of a port leaves, if there is one.
     fn leave(&mut self, port: u16) -> Result<(), Mem> {
-        if let Some(Stay {
-            session,
-            is_in: true,
-            ..
-        }) = self.last(port)
+        if let Some(
+            Stay {
+                session,
+                is_in: true,
+                ..
+            },
+        ) = self.last(port)
         {
             self.hub.leave(session)?;
             self.deeds.push(Deed::Left(session))?;

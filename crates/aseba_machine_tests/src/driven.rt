@@ -82,7 +82,8 @@ fn expect(
 
 #[test]
 fn a_kill_in_an_expression(rt: HostRuntime) -> Result<(), Fail> {
-    let lines = b"10 2 event ping\n12 2 killed 3\n12 2 event ping\n16 4 emit pong\nvar x 2\nend 20 5\n";
+    let lines =
+        b"10 2 event ping\n12 2 killed 3\n12 2 event ping\n16 4 emit pong\nvar x 2\nend 20 5\n";
     let script = b"10 event ping\n12 event ping";
     expect(&rt, rt.alloc(), KILLED, script, 20, lines)
 }

@@ -67,7 +67,10 @@ fn good_scripts(rt: HostRuntime) -> Result<(), Fail> {
         (b"\n# nothing\n\n".as_slice(), 0),
         (b"10 event ping\n12 event ping".as_slice(), 2),
         (b"0 event pair 4 -5\r\n0 set x 0 50\r\n".as_slice(), 2),
-        (b"5 event ping from 9\n5 event pong from 65535 1 -2\n".as_slice(), 2),
+        (
+            b"5 event ping from 9\n5 event pong from 65535 1 -2\n".as_slice(),
+            2,
+        ),
         (b"100000000 event ping 32767 -32768".as_slice(), 1),
         (b"1 set a 0 1 2 3\n1 set event.args 31 0".as_slice(), 2),
     ] {
