@@ -347,6 +347,8 @@ fn repeated(alloc: Global, first: &str, line: &str, times: usize) -> Result<Stri
 fn sources_that_are_too_large(rt: HostRuntime) -> Result<(), Fail> {
     // The node has 2048 words: 3 of the event table, 2 for each assignment, and the end of the code.
     let full = repeated(rt.alloc(), "var x\n", "x = 1\n", 1022)?;
+    let mut written = repeated(rt.alloc(), "code 0003 ffff 0003", " 1001 4022", 1022)?;
+    written.push_str(" 0000\nvar x 0\nend 0 0\n")?;
     let ran = ran_with(
         rt.alloc(),
         "sim|default|x.aseba|0",
@@ -355,6 +357,7 @@ fn sources_that_are_too_large(rt: HostRuntime) -> Result<(), Fail> {
         20_000,
     )?;
     assert_eq!(rt; ran.number, 0);
+    assert_eq!(rt; ran.out.bytes(), written.as_bytes());
     let mut over = repeated(rt.alloc(), "var x\n", "x = 1\n", 1021)?;
     over.push_str("x = 2048\n")?;
     let ran = ran_with(

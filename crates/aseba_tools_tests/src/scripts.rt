@@ -8,10 +8,10 @@ use std::test::Fail;
 
 /// What a call answered, and what it wrote.
 #[derive(Drop)]
-struct Outcome {
-    number: u8,
-    out: MemorySink,
-    err: MemorySink,
+pub struct Outcome {
+    pub number: u8,
+    pub out: MemorySink,
+    pub err: MemorySink,
 }
 
 /// Runs `sim` on the default project over a source and a script for so many ticks, with room for so
@@ -30,7 +30,8 @@ fn ran(
     ran_words(alloc, &words, List::from_vec(files), room)
 }
 
-fn file(alloc: Global, name: &[u8], bytes: &[u8]) -> Result<MemoryFile, Mem> {
+/// A file of a name with these bytes.
+pub fn file(alloc: Global, name: &[u8], bytes: &[u8]) -> Result<MemoryFile, Mem> {
     Ok(MemoryFile {
         name: Name::new(alloc, name)?,
         bytes: List::from_slice(alloc, bytes)?,
@@ -38,7 +39,7 @@ fn file(alloc: Global, name: &[u8], bytes: &[u8]) -> Result<MemoryFile, Mem> {
 }
 
 /// Runs words over files, with room for so many bytes of output.
-fn ran_words(
+pub fn ran_words(
     alloc: Global,
     line: &[&str],
     files: List<MemoryFile>,

@@ -156,6 +156,7 @@ fn words_that_name_no_tool(rt: HostRuntime) -> Result<(), Fail> {
 fn words_that_no_tool_takes(rt: HostRuntime) -> Result<(), Fail> {
     let lines: &[&str] = &[
         "sim",
+        "sim|default",
         "sim|default|x",
         "sim|default|x|5|5",
         "sim|default|x|5|--script",
