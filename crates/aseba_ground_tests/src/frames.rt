@@ -6,10 +6,13 @@ use std::test::Fail;
 /// Source 1, kind 2, and a payload of two words.
 const ONE: [u8; 10] = [4, 0, 1, 0, 2, 0, 3, 0, 255, 255];
 
+/// The event 1 of source 1, with the arguments 3 and -1.
+const PONG: [u8; 10] = [4, 0, 1, 0, 1, 0, 3, 0, 255, 255];
+
 #[test]
 fn byte_by_byte(rt: HostRuntime) {
     let mut reader = FrameReader::new();
-    for (place, byte) in ONE.iter().enumerate() {
+    for (place, byte) in PONG.iter().enumerate() {
         assert_eq!(rt; reader.held(), place);
         let fed = reader.feed(*byte);
         assert_eq!(rt; fed, if place < 9 { Fed::More } else { Fed::Whole });
