@@ -203,6 +203,61 @@ fn a_value_is_held_while_a_handler_runs(rt: HostRuntime) -> Result<(), Fail> {
 }
 
 #[test]
+fn a_paused_handler_drops_an_event(rt: HostRuntime) -> Result<(), Fail> {
+    let runs = [(
+        "6 event ping\n7 event ping\n8 set x 0 5\n",
+        "20",
+        "4 2 division 2\n6 2 event ping\n7 2 dropped ping\n8 2 set x\nvar x 1\nend 20 2\n",
+    )];
+    all_told(
+        rt.alloc(),
+        &rt,
+        "var x = 1\nx = x / 0\nonevent ping\nx = 9\n",
+        "code 0005 ffff 0005 0000 000c 1001 4022 3022 1000 8005 4022 0000 1009 4022 0000",
+        &runs,
+    )
+}
+
+#[test]
+fn a_held_value_is_there_after_a_kill(rt: HostRuntime) -> Result<(), Fail> {
+    let runs = [(
+        "10 event ping\n11 set x 0 50\n12 event ping\n",
+        "20",
+        "10 2 event ping\n11 2 set x\n12 2 killed 3\n12 2 event ping\nvar x 51\nend 20 4\n",
+    )];
+    all_told(
+        rt.alloc(),
+        &rt,
+        "var x = 1\nonevent ping\nx = x + 1\n",
+        "code 0005 ffff 0005 0000 0008 1001 4022 0000 3022 1001 8002 4022 0000",
+        &runs,
+    )
+}
+
+#[test]
+fn a_kill_in_a_subroutine_has_the_line_there(rt: HostRuntime) -> Result<(), Fail> {
+    let runs = [
+        (
+            "5 event ping\n8 event ping\n",
+            "30",
+            "5 1 event ping\n8 2 killed 6\n8 2 event ping\nvar x 9\nend 30 7\n",
+        ),
+        (
+            "5 event ping\n10 event ping\n",
+            "30",
+            "5 1 event ping\n10 3 killed 5\n10 3 event ping\nvar x 9\nend 30 8\n",
+        ),
+    ];
+    all_told(
+        rt.alloc(),
+        &rt,
+        "var x\nonevent ping\ncallsub s\nx = 9\nsub s\nx = x + 1\n",
+        "code 0005 ffff 0005 0000 0006 0000 d00a 1009 4022 0000 3022 1001 8002 4022 e000",
+        &runs,
+    )
+}
+
+#[test]
 fn a_sink_fails_in_the_third_line(rt: HostRuntime) -> Result<(), Fail> {
     let written = format!(in rt.alloc(); "{KILLED_CODE}\n10 2 event ping\n1")?;
     let ran = ran(
