@@ -1,8 +1,10 @@
+pub mod Addresses
 pub mod Alike
 pub mod CallsMade
 pub mod CallsThere
 pub mod Loading
 pub mod NativesKnown
+pub mod Outcomes
 pub mod Outputs
 pub mod Pages
 pub mod Projects

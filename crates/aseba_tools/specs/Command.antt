@@ -1,10 +1,13 @@
 -- The tools, which words are a command line of one, and what a call does of it.
 use Rattle.std.specs.Prelude.{◌≡◌, ℕ, ◌⊎◌, ◌&&◌, Bool, true, false, not, List, [], ◌∷◌, Option, Some, None, IsSomeAnd, is_some, if◌then◌else◌, nat_eq, codes, option_map, option_and_then}
-use Rattle.std.specs.List.{starts_with}
 use Rattle.std.specs.Str.{bytes_eq}
+use Rattle.std.specs.Option.{option_map_or}
 use Rattle.clap.specs.Words.{Row, Text, first_of}
+use Rattle.aseba_tools.specs.Address.{address_of, names_link}
 use Rattle.aseba_tools.specs.CodeWritten.{CodeWritten}
+use Rattle.aseba_tools.specs.Dialing.{Dialing, NotDialed}
 use Rattle.aseba_tools.specs.Dumped.{Dumped}
+use Rattle.aseba_tools.specs.Joined.{Joined}
 use Rattle.aseba_tools.specs.Simulated.{Simulated}
 use Rattle.aseba_tools.specs.Words.{Unread, Word, text, number, option, number_option, flag, found, text_at, number_at, number_or_none, is_set}
 use Rattle.aseba_tools.specs.declared.command.Command.{Command as CodeCommand}
@@ -78,34 +81,48 @@ abbrev pub names_no_tool : List Text → Bool
 names_no_tool [] = true
 names_no_tool (name ∷ words) = not (is_some (tool_named name))
 
--- a target that begins so is a link, and no file
-abbrev pub names_link : Text → Bool
-names_link target = starts_with nat_eq target (codes "tcp:")
-
 -- what the program can do so far: the test gets shorter with each tool
 abbrev pub is_built : Command → Bool
 is_built (sim project source ticks script) = true
 is_built (compile project source) = true
+is_built (node project target turns) = true
 is_built (dump target project raw) = raw && (not (is_some project) && not (names_link target))
 is_built _ = false
 
+-- where a tool needs a link, its target names one
+abbrev pub has_link : Command → Bool
+has_link (node project target turns) = is_some (address_of target)
+has_link _ = true
+
 abbrev pub if_built : Command → Option Command
-if_built command = if is_built command then Some command else None
+if_built command = if is_built command && has_link command then Some command else None
 
 -- the command of words, of those that the program can do
 abbrev pub command_of : List Text → Option Command
 command_of words = option_and_then if_built (named words)
 
--- why a command ended with a status, and what was written, over what the files hold under each name
-abbrev pub Does : Command → (files : List ℕ → Option (Option (List ℕ))) → (before after : Option (List ℕ)) → Status → Type 0
-Does (sim project source ticks script) files before after status = Simulated project source script files ticks before after status
-Does (compile project source) files before after status = CodeWritten project source files before after status
-Does (dump target project raw) files before after status = Dumped target (files target) before after status
-Does _ files before after status = ⊥
+-- a tool that may ask the dialer for a link
+abbrev pub may_dial : Command → Bool
+may_dial (node project target turns) = true
+may_dial _ = false
 
--- The words weren't read as a command, and nothing was written; or their command was done.
-abbrev pub Did : Option Command → (files : List ℕ → Option (Option (List ℕ))) → (before after : Option (List ℕ)) → Status → Type 0
-Did asked files before after status = (Unread asked status × (after ≡ before)) ⊎ IsSomeAnd asked (λ command. Does command files before after status)
+-- the same of words, whose command there may not be
+abbrev pub may_dial_for : Option Command → Bool
+may_dial_for asked = option_map_or may_dial asked false
+
+-- why a command ended with a status, what was written, and what came of the dialer, over what the files hold under each name
+abbrev pub Does : Command → (files : List ℕ → Option (Option (List ℕ))) → (before after : Option (List ℕ)) → Dialing → Status → Type 0
+Does (sim project source ticks script) files before after d status = Simulated project source script files ticks before after status × NotDialed d
+Does (compile project source) files before after d status = CodeWritten project source files before after status × NotDialed d
+Does (node project target turns) files before after d status =
+    (after ≡ before) × IsSomeAnd (address_of target) (λ address. Joined project address (files project) turns d status)
+Does (dump target project raw) files before after d status = Dumped target (files target) before after status × NotDialed d
+Does _ files before after d status = ⊥
+
+-- The words weren't read as a command, nothing was written, and the dialer wasn't asked; or their command was done.
+abbrev pub Did : Option Command → (files : List ℕ → Option (Option (List ℕ))) → (before after : Option (List ℕ)) → Dialing → Status → Type 0
+Did asked files before after d status =
+    (Unread asked status × (after ≡ before) × NotDialed d) ⊎ IsSomeAnd asked (λ command. Does command files before after d status)
 
 -- the command that a value of the code stands for
 abbrev pub command_view : CodeCommand → Command

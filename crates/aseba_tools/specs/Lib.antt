@@ -1,10 +1,13 @@
+pub mod Address
 pub mod CodeLine
 pub mod CodeWritten
 pub mod Command
+pub mod Dialing
 pub mod DumpText
 pub mod Dumped
 pub mod FileText
 pub mod Given
+pub mod Joined
 pub mod Meant
 pub mod Outcome
 pub mod Page

@@ -1,19 +1,24 @@
 //! The tools: their names, the words that each takes, and the commands that are read of them.
 
-ghost use Rattle.std.specs.Prelude.{◌≡◌, None, IfErr, IfOk, Some, true, map, option_map, string_bytes};
+ghost use Rattle.std.specs.Prelude.{◌≡◌, None, IfErr, IfOk, Some, false, true, map, option_map, string_bytes};
+ghost use Rattle.std.specs.Option.{option_map_or};
 ghost use Rattle.clap.specs.Words.{found_of, is_simple_and_free, rows_of};
 ghost use Rattle.aseba_edge.specs.Counts.{Counts};
 ghost use Rattle.aseba_tools.specs.Command.{Does, command_in, command_view, named, names_no_tool};
 ghost use Rattle.aseba_tools.specs.Command as spec;
-ghost use Rattle.aseba_tools.specs.Outcome.{is_read_fault, is_write_fault};
+ghost use Rattle.aseba_tools.specs.Dialing.{output_end, polled_end};
+ghost use Rattle.aseba_tools.specs.Outcome.{CountsBoth, is_dial_fault, is_read_fault, is_write_fault};
 ghost use Rattle.aseba_tools.specs.Words.{Unread, app, word_view};
 
+use crate::address::{address_of, names_link};
 use crate::compile::compile;
 use crate::dump::dump;
+use crate::node::node;
+use crate::ran::Ran;
 use crate::sim::sim;
 use crate::status::Status;
 use crate::words::{Word, find, flag, number, number_or_none, text, text_or_none};
-use aseba_edge::{Files, Sink};
+use aseba_edge::{Dialer, Files, Sink};
 use clap::ArgMatches;
 use std::alloc::Global;
 
@@ -172,7 +177,7 @@ impl Command<'_> {
         ensures { result ≡ spec.is_built (command_view self.now) }
     {
         match self {
-            Command::Sim { .. } | Command::Compile { .. } => true,
+            Command::Sim { .. } | Command::Compile { .. } | Command::Node { .. } => true,
             Command::Dump {
                 target,
                 project,
@@ -181,13 +186,16 @@ impl Command<'_> {
             _ => false,
         }
     }
-}
 
-/// Whether a target is a link and no file.
-fn names_link(target: &str) -> bool
-    ensures { result ≡ spec.names_link target.now }
-{
-    target.as_bytes().starts_with(b"tcp:")
+    /// Whether it names a link where it needs one.
+    fn has_link(&self) -> bool
+        ensures { result ≡ spec.has_link (command_view self.now) }
+    {
+        match self {
+            Command::Node { target, .. } => address_of(target).is_some(),
+            _ => true,
+        }
+    }
 }
 
 /// Reads the words of a command line, the program's name left out. Words that are none, and words
@@ -195,11 +203,12 @@ fn names_link(target: &str) -> bool
 pub fn read_command<'a>(alloc: Global, words: &'a [String]) -> Result<Command<'a>, Status>
     ensures read { IfOk result (λ command. spec.command_of (map string_bytes words.now) ≡ Some (command_view command)) }
     ensures built { IfOk result (λ command. spec.is_built (command_view command) ≡ true) }
+    ensures linked { IfOk result (λ command. spec.has_link (command_view command) ≡ true) }
     ensures unread { IfErr result (Unread (spec.command_of (map string_bytes words.now))) }
     ensures no_tool { names_no_tool (map string_bytes words.now) ≡ true → result ≡ Err Status.Usage }
 {
     let command = named_command(alloc, words)?;
-    if command.is_built() {
+    if command.is_built() && command.has_link() {
         Ok(command)
     } else {
         Err(Status::Usage)
@@ -281,18 +290,29 @@ fn matched<'a>(tool: Tool, matches: &ArgMatches<'a>) -> Command<'a>
 }
 
 /// Does a command.
-pub fn do_command<F: Files, S: Sink>(
+pub fn do_command<F: Files, D: Dialer, S: Sink>(
     alloc: Global,
     command: Command<'_>,
     files: &mut F,
+    dialer: &mut D,
     out: &mut S,
-) -> Status
-    requires { spec.is_built (command_view command) ≡ true }
-    ensures not_usage { result ≡ Status.Usage → ⊥ }
-    ensures did { Does (command_view command.entry) (λ name. option_map (λ files. files name) (F.contents files.old)) (S.taken out.old) (S.taken out.new) result }
-    ensures read_fault { Counts (is_read_fault result) (F.faults files.old) (F.faults files.new) }
-    ensures write_fault { Counts (is_write_fault result) (S.faults out.old) (S.faults out.new) }
+) -> Ran<D::In, D::Poll, D::Out>
+    requires built { spec.is_built (command_view command) ≡ true }
+    requires linked { spec.has_link (command_view command) ≡ true }
+    ensures not_usage { result.status ≡ Status.Usage → ⊥ }
+    ensures did { Does (command_view command.entry) (λ name. option_map (λ files. files name) (F.contents files.old)) (S.taken out.old) (S.taken out.new)
+        record {
+          before = D.contents dialer.old;
+          behind = D.contents dialer.new;
+          polled = option_map (λ input. polled_end (D.Poll.mark input) (D.Poll.contents input)) result.polled;
+          output = option_map (λ output. output_end (D.Out.mark output) (D.Out.taken output)) result.output;
+        } result.status }
+    ensures no_input { result.input ≡ None }
+    ensures read_fault { CountsBoth (is_read_fault result.status) (F.faults files.old) (F.faults files.new) (option_map_or D.Poll.faults result.polled 0) }
+    ensures write_fault { CountsBoth (is_write_fault result.status) (S.faults out.old) (S.faults out.new) (option_map_or D.Out.faults result.output 0) }
+    ensures dial_fault { Counts (is_dial_fault result.status) (D.faults dialer.old) (D.faults dialer.new) }
     ensures files { F.contents files.new ≡ F.contents files.old }
+    ensures dialer { spec.may_dial (command_view command.entry) ≡ false → dialer.new ≡ dialer.old }
 {
     match command {
         Command::Sim {
@@ -300,9 +320,19 @@ pub fn do_command<F: Files, S: Sink>(
             source,
             ticks,
             script,
-        } => sim(alloc, project, source, script, ticks, files, out),
-        Command::Compile { project, source } => compile(alloc, project, source, files, out),
-        Command::Dump { target, .. } => dump(alloc, target, files, out),
+        } => Ran::without_link(sim(alloc, project, source, script, ticks, files, out)),
+        Command::Compile { project, source } => {
+            Ran::without_link(compile(alloc, project, source, files, out))
+        }
+        Command::Node {
+            project,
+            target,
+            turns,
+        } => match address_of(target) {
+            Some(address) => node(alloc, project, address, turns, files, dialer),
+            None => unreachable!(),
+        },
+        Command::Dump { target, .. } => Ran::without_link(dump(alloc, target, files, out)),
         _ => unreachable!(),
     }
 }

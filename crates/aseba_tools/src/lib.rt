@@ -1,6 +1,7 @@
 //! All that the program `aseba` does, as one call over the objects of the outside.
 #![tactic(auto)]
 
+mod address;
 mod command;
 mod compile;
 mod dump;
@@ -9,8 +10,10 @@ mod file;
 mod frames;
 mod given;
 mod natives;
+mod node;
 mod project;
 mod putting;
+mod ran;
 mod running;
 pub mod script;
 mod sim;
@@ -20,6 +23,7 @@ mod top;
 mod words;
 
 pub use aseba_compile::Refusal;
+pub use ran::Ran;
 pub use status::Status;
 pub use telling::tell;
-pub use top::{Ran, run};
+pub use top::run;

@@ -118,6 +118,30 @@ fn words_of_dump(rt: HostRuntime) -> Result<(), Fail> {
     Ok(())
 }
 
+#[test]
+fn words_of_node(rt: HostRuntime) -> Result<(), Fail> {
+    // No link is there to be had, so what is taken ends without a connection.
+    for line in [
+        "node|default|tcp:h:1|0",
+        "node|default|tcp:localhost:33333|5",
+        "node|default|tcp:127.0.0.1:65535|1000000000",
+        "node|default|tcp:h:1|007",
+        "node|--|default|tcp:h:1|+5",
+        "node|default|tcp:tcp:1|5",
+        "node|default|tcp: :1|5",
+    ] {
+        let ended = ran(rt.alloc(), line)?;
+        assert_eq!(rt; ended.number, 12, "{line}");
+        assert_eq!(rt; ended.out.bytes(), b"".as_slice(), "{line}");
+        assert_eq!(rt;
+            ended.err.bytes(),
+            b"aseba: no connection\n".as_slice(),
+            "{line}"
+        );
+    }
+    Ok(())
+}
+
 /// Each line is no command line, and is told so, with nothing else.
 fn all_refused(alloc: Global, rt: &impl Abort, lines: &[&str]) -> Result<(), Fail> {
     for line in lines {
@@ -186,6 +210,36 @@ fn words_that_no_tool_takes(rt: HostRuntime) -> Result<(), Fail> {
 }
 
 #[test]
+fn words_that_node_does_not_take(rt: HostRuntime) -> Result<(), Fail> {
+    let lines: &[&str] = &[
+        "node",
+        "node|default",
+        "node|default|tcp:h:1",
+        "node|default|tcp:h:1|5|5",
+        "node|default|tcp:h:1|-5",
+        "node|default|tcp:h:1|1000000001",
+        "node|default|tcp:h:1|5|--raw",
+        "node|default|x|5",
+        "node|default||5",
+        "node|default|tcp:|5",
+        "node|default|tcp:h|5",
+        "node|default|tcp::1|5",
+        "node|default|tcp:h:|5",
+        "node|default|tcp:h:0|5",
+        "node|default|tcp:h:01|5",
+        "node|default|tcp:h:+1|5",
+        "node|default|tcp:h:65536|5",
+        "node|default|tcp:h:99999999999999999999|5",
+        "node|default|tcp:h:1:1|5",
+        "node|default|tcp:h:1 |5",
+        "node|default|tcp:h;1|5",
+        "node|default|TCP:h:1|5",
+        "node|default|udp:h:1|5",
+    ];
+    all_refused(rt.alloc(), &rt, lines)
+}
+
+#[test]
 fn words_that_are_no_number_of_ticks(rt: HostRuntime) -> Result<(), Fail> {
     let lines: &[&str] = &[
         "sim|default|x|",
@@ -204,7 +258,6 @@ fn words_that_are_no_number_of_ticks(rt: HostRuntime) -> Result<(), Fail> {
 #[test]
 fn words_of_what_is_not_there_yet(rt: HostRuntime) -> Result<(), Fail> {
     let lines: &[&str] = &[
-        "node|default|tcp:localhost:33333|5",
         "dump|f",
         "dump|f|--raw|--project|default",
         "dump|tcp:localhost:33333|--raw",
