@@ -18,6 +18,8 @@ use Rattle.aseba_tree.specs.declared.description.Param.{Param}
 use Rattle.aseba_tree.specs.declared.project.Project.{Project}
 use Rattle.aseba_describe.specs.Defaults.{default_project}
 use Rattle.aseba_tools.specs.ProjectWord.{Heading, AreFirst, IsFileProject, IsProject, headings, is_default, known_natives}
+use Rattle.aseba_tools.specs.declared.project.Allowed.{Allowed}
+use Rattle.aseba_tools.specs.declared.project.Allowed.TheVariants.{KnownNatives}
 use Rattle.aseba_tools.proofs.CallsMade.{calls-made}
 use Rattle.aseba_tools.proofs.CallsThere.{IsThere, sound-calls}
 
@@ -54,13 +56,13 @@ is-known project first name there =
     let taken : native_sizes (project_view project) name ≡ sizes_of there.native = ap (λ o. unwrap_or (option_map sizes_of o) []) there.found in
     sym (slice_get-map sizes natives place) ∙ known ∙ ap Some (sym taken)
 
--- they are of each project that a word names
-file-first : (held : Option (Option (List ℕ))) (project : Project) (b : Bool) → MatchBool b (project ≡ default_project) (IsFileProject held project) → AreFirst project.node.natives known_natives
-file-first held project true is = subst (λ (p : Project). AreFirst p.node.natives known_natives) (sym is) refl
-file-first held project false is = is.run.natives
+-- they are of each project that a word names for a machine
+file-first : (allowed : Allowed) → allowed ≡ KnownNatives → (held : Option (Option (List ℕ))) (project : Project) (b : Bool) → MatchBool b (project ≡ default_project) (IsFileProject allowed held project) → AreFirst project.node.natives known_natives
+file-first allowed known held project true is = subst (λ (p : Project). AreFirst p.node.natives known_natives) (sym is) refl
+file-first allowed known held project false is = is.of_text.natives known
 
-pub project-first : (word : List ℕ) (held : Option (Option (List ℕ))) (project : Project) → IsProject word held project → AreFirst project.node.natives known_natives
-project-first word held project is = file-first held project (is_default word) is
+pub project-first : (allowed : Allowed) → allowed ≡ KnownNatives → (word : List ℕ) (held : Option (Option (List ℕ))) (project : Project) → IsProject allowed word held project → AreFirst project.node.natives known_natives
+project-first allowed known word held project is = file-first allowed known held project (is_default word) is
 
 -- all natives that a run of a sound source calls are known
 known-more : (P Q : Name → Type 0) (ticks : List Moment) → ((name : Name) → P name → Q name) → CallsKnown P ticks → CallsKnown Q ticks

@@ -6,6 +6,7 @@ use Rattle.aseba_compile.specs.Compiled.{Compiled}
 use Rattle.aseba_tools.specs.CodeLine.{code_line}
 use Rattle.aseba_tools.specs.Given.{Held, IfGiven}
 use Rattle.aseba_tools.specs.Written.{OfSoundTree, Worked}
+use Rattle.aseba_tools.specs.declared.project.Allowed.TheVariants.{AnyNatives}
 use Rattle.aseba_tools.specs.declared.status.Status.{Status}
 
 -- A text is the line of some words of 16 bits that are code of a source, with some lines of it.
@@ -23,4 +24,4 @@ IsCodeOf project text written = OfSoundTree project text (λ program. IsCodeLine
 -- The project and the source weren't given, and nothing was written; or the source was worked on.
 abbrev pub CodeWritten : (word source : List ℕ) → Held → (before after : Option (List ℕ)) → Status → Type 0
 CodeWritten word source files before after status =
-    IfGiven word source files before after status (λ project text. Worked project text (IsCodeOf project text) before after status)
+    IfGiven AnyNatives word source files before after status (λ project text. Worked project text (IsCodeOf project text) before after status)

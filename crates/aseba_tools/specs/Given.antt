@@ -5,6 +5,7 @@ use Rattle.aseba_tree.specs.View.{project_view}
 use Rattle.aseba_tree.specs.declared.project.Project.{Project}
 use Rattle.aseba_tools.specs.FileText.{IsFileText, NotRead, most_text}
 use Rattle.aseba_tools.specs.ProjectWord.{IsProject, NoProject}
+use Rattle.aseba_tools.specs.declared.project.Allowed.{Allowed}
 use Rattle.aseba_tools.specs.declared.status.Status.{Status}
 
 -- what the files hold under each name
@@ -12,27 +13,27 @@ abbrev pub Held : Type 0
 Held = List ℕ → Option (Option (List ℕ))
 
 -- the project of a word, and the text of a source's file
-pub record AreGiven (word source : List ℕ) (files : Held) (project : Project) (text : List ℕ) : Type 0 where
-  pub is_project : IsProject word (files word) project
+pub record AreGiven (allowed : Allowed) (word source : List ℕ) (files : Held) (project : Project) (text : List ℕ) : Type 0 where
+  pub is_project : IsProject allowed word (files word) project
   pub is_text : IsFileText most_text (files source) text
 
 -- the word gives a project, and the source's file was not read
-pub record NoSource (word source : List ℕ) (files : Held) (status : Status) : Type 0 where
+pub record NoSource (allowed : Allowed) (word source : List ℕ) (files : Held) (status : Status) : Type 0 where
   pub project : Project
-  pub is_project : IsProject word (files word) project
+  pub is_project : IsProject allowed word (files word) project
   pub unread : NotRead most_text source (files source) status
 
 -- Why the two weren't given: the project is looked at first.
-abbrev pub NotGiven : (word source : List ℕ) → Held → Status → Type 0
-NotGiven word source files status = NoProject word (files word) status ⊎ NoSource word source files status
+abbrev pub NotGiven : Allowed → (word source : List ℕ) → Held → Status → Type 0
+NotGiven allowed word source files status = NoProject allowed word (files word) status ⊎ NoSource allowed word source files status
 
 -- something holds of the project and the text that are given
-pub record OfGiven (word source : List ℕ) (files : Held) (P : tree.Project → List ℕ → Type 0) : Type 0 where
+pub record OfGiven (allowed : Allowed) (word source : List ℕ) (files : Held) (P : tree.Project → List ℕ → Type 0) : Type 0 where
   pub project : Project
   pub text : List ℕ
-  pub given : AreGiven word source files project text
+  pub given : AreGiven allowed word source files project text
   pub holds : P (project_view project) text
 
 -- The two weren't given, and nothing was written; or this holds of them.
-abbrev pub IfGiven : (word source : List ℕ) → Held → (before after : Option (List ℕ)) → Status → (tree.Project → List ℕ → Type 0) → Type 0
-IfGiven word source files before after status P = (NotGiven word source files status × (after ≡ before)) ⊎ OfGiven word source files P
+abbrev pub IfGiven : Allowed → (word source : List ℕ) → Held → (before after : Option (List ℕ)) → Status → (tree.Project → List ℕ → Type 0) → Type 0
+IfGiven allowed word source files before after status P = (NotGiven allowed word source files status × (after ≡ before)) ⊎ OfGiven allowed word source files P

@@ -5,6 +5,7 @@ use Rattle.aseba_node.specs.NodeState.{NodeState, new_node}
 use Rattle.aseba_node.specs.Session.{Ends, DidAll, MetBadFrame, DidSome, WrotePart}
 use Rattle.aseba_tools.specs.Dialing.{Dialing, NotDialed, IsRefused, GavePolled}
 use Rattle.aseba_tools.specs.ProjectWord.{IsProject, NoProject}
+use Rattle.aseba_tools.specs.declared.project.Allowed.TheVariants.{KnownNatives}
 use Rattle.aseba_tools.specs.declared.status.Status.{Status}
 use Rattle.aseba_tools.specs.declared.status.Status.TheVariants.{Done, ReadFault, WriteFault, Memory, BadFrame, DialFault}
 
@@ -30,9 +31,9 @@ NodeRan n address turns d status = HadSession n address turns d status
 -- the word gives a project, and something holds of it
 pub record OfProject (word : List ℕ) (held : Option (Option (List ℕ))) (P : Project → Type 0) : Type 0 where
   pub project : Project
-  pub is_project : IsProject word held project
+  pub is_project : IsProject KnownNatives word held project
   pub holds : P project
 
 -- The word gives no project, and the dialer wasn't asked; or this came of the project's new node.
 abbrev pub Joined : (word address : List ℕ) → Option (Option (List ℕ)) → (turns : ℕ) → Dialing → Status → Type 0
-Joined word address held turns d status = (NoProject word held status × NotDialed d) ⊎ OfProject word held (λ project. NodeRan (new_node project) address turns d status)
+Joined word address held turns d status = (NoProject KnownNatives word held status × NotDialed d) ⊎ OfProject word held (λ project. NodeRan (new_node project) address turns d status)

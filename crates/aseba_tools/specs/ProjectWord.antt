@@ -8,6 +8,8 @@ use Rattle.aseba_describe.specs.Grammar.{ProjectText, IsBadLine}
 use Rattle.aseba_describe.specs.Defaults.{default_project}
 use Rattle.aseba_describe.specs.NativeLines.{IsNativeLine}
 use Rattle.aseba_tools.specs.FileText.{IsFileText, NotRead, most_text}
+use Rattle.aseba_tools.specs.declared.project.Allowed.{Allowed}
+use Rattle.aseba_tools.specs.declared.project.Allowed.TheVariants.{KnownNatives}
 use Rattle.aseba_tools.specs.declared.status.Status.{Status}
 use Rattle.aseba_tools.specs.declared.status.Status.TheVariants.{BadProject, Memory}
 
@@ -40,10 +42,10 @@ pub record IsFirstOther (natives known : List Native) (k : ℕ) : Type 0 where
 abbrev pub known_natives : List Native
 known_natives = default_project.node.natives
 
--- a text spells a project that a machine can be made for
-pub record IsRunProject (text : List ℕ) (p : Project) : Type 0 where
+-- A text spells a project. Where a machine is made for it, its natives are the machine's.
+pub record IsTextProject (allowed : Allowed) (text : List ℕ) (p : Project) : Type 0 where
   pub spelled : ProjectText text p
-  pub natives : AreFirst p.node.natives known_natives
+  pub natives : allowed ≡ KnownNatives → AreFirst p.node.natives known_natives
 
 -- the line of the first native that a machine doesn't have, in the text of a project
 pub record IsOtherNative (text : List ℕ) (line : ℕ) : Type 0 where
@@ -53,36 +55,36 @@ pub record IsOtherNative (text : List ℕ) (line : ℕ) : Type 0 where
   pub first : IsFirstOther project.node.natives known_natives others
   pub line_is : IsNativeLine (lines text) others line
 
--- the line that is to blame where no such project is spelled: a bad one of the text, and else that of a native
-abbrev pub IsToBlame : List ℕ → ℕ → Type 0
-IsToBlame text line = IsBadLine (lines text) line ⊎ IsOtherNative text line
+-- the line that is to blame where no such project is spelled: a bad one of the text, and else that of a native, where the natives matter
+abbrev pub IsToBlame : Allowed → List ℕ → ℕ → Type 0
+IsToBlame allowed text line = IsBadLine (lines text) line ⊎ ((allowed ≡ KnownNatives) × IsOtherNative text line)
 
-pub record IsFileProject (held : Option (Option (List ℕ))) (p : Project) : Type 0 where
+pub record IsFileProject (allowed : Allowed) (held : Option (Option (List ℕ))) (p : Project) : Type 0 where
   pub text : List ℕ
   pub read : IsFileText most_text held text
-  pub run : IsRunProject text p
+  pub of_text : IsTextProject allowed text p
 
 -- the project of a word, where the files hold this under it
-abbrev pub IsProject : List ℕ → Option (Option (List ℕ)) → Project → Type 0
-IsProject word held p = MatchBool (is_default word) (p ≡ default_project) (IsFileProject held p)
+abbrev pub IsProject : Allowed → List ℕ → Option (Option (List ℕ)) → Project → Type 0
+IsProject allowed word held p = MatchBool (is_default word) (p ≡ default_project) (IsFileProject allowed held p)
 
 -- a file's text has this line to blame
-pub record IsBlamed (held : Option (Option (List ℕ))) (line : ℕ) : Type 0 where
+pub record IsBlamed (allowed : Allowed) (held : Option (Option (List ℕ))) (line : ℕ) : Type 0 where
   pub text : List ℕ
   pub read : IsFileText most_text held text
-  pub blame : IsToBlame text line
+  pub blame : IsToBlame allowed text line
 
--- why a text spells no project that a machine can be made for
-abbrev pub NoTextProject : List ℕ → Status → Type 0
-NoTextProject text (BadProject line) = IsToBlame text line
-NoTextProject text Memory = Unit {0}
-NoTextProject text _ = ⊥
+-- why a text spells no such project
+abbrev pub NoTextProject : Allowed → List ℕ → Status → Type 0
+NoTextProject allowed text (BadProject line) = IsToBlame allowed text line
+NoTextProject allowed text Memory = Unit {0}
+NoTextProject allowed text _ = ⊥
 
 -- why a file gives no project
-abbrev pub NoFileProject : List ℕ → Option (Option (List ℕ)) → Status → Type 0
-NoFileProject word held (BadProject line) = IsBlamed held line
-NoFileProject word held status = NotRead most_text word held status
+abbrev pub NoFileProject : Allowed → List ℕ → Option (Option (List ℕ)) → Status → Type 0
+NoFileProject allowed word held (BadProject line) = IsBlamed allowed held line
+NoFileProject allowed word held status = NotRead most_text word held status
 
 -- The status of a word that gives no project; for the default one only memory may not suffice.
-abbrev pub NoProject : List ℕ → Option (Option (List ℕ)) → Status → Type 0
-NoProject word held status = MatchBool (is_default word) (status ≡ Memory) (NoFileProject word held status)
+abbrev pub NoProject : Allowed → List ℕ → Option (Option (List ℕ)) → Status → Type 0
+NoProject allowed word held status = MatchBool (is_default word) (status ≡ Memory) (NoFileProject allowed word held status)

@@ -5,6 +5,7 @@ use Rattle.aseba_tools.specs.FileText.{IsFileText, NotRead, most_text}
 use Rattle.aseba_tools.specs.Given.{Held, IfGiven}
 use Rattle.aseba_tools.specs.Meant.{HasBadLine, IsMeantOf}
 use Rattle.aseba_tools.specs.Written.{OfSoundTree, Worked}
+use Rattle.aseba_tools.specs.declared.project.Allowed.TheVariants.{KnownNatives}
 use Rattle.aseba_tools.specs.declared.status.Status.{Status}
 use Rattle.aseba_tools.specs.declared.status.Status.TheVariants.{BadScript}
 
@@ -28,5 +29,5 @@ WithScript (Some name) files before after status P = (NotRead most_text name (fi
 -- The project and the source weren't given, and nothing was written; or the source was run with the script.
 abbrev pub Simulated : (word source : List ℕ) → (script : Option (List ℕ)) → Held → (ticks : ℕ) → (before after : Option (List ℕ)) → Status → Type 0
 Simulated word source script files ticks before after status =
-    IfGiven word source files before after status (λ project text.
+    IfGiven KnownNatives word source files before after status (λ project text.
     WithScript script files before after status (λ script_text. Ran project text script_text ticks before after status))

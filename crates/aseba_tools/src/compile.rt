@@ -10,6 +10,7 @@ ghost use Rattle.aseba_tools.specs.Outcome.{is_read_fault, is_write_fault};
 ghost use Rattle.aseba_tools.specs.Written.{Worked};
 
 use crate::given::{program_of, read_given};
+use crate::project::Allowed;
 use crate::putting::{put_code, status_of};
 use crate::status::Status;
 use aseba_edge::{Files, Sink};
@@ -29,7 +30,7 @@ pub fn compile<F: Files, S: Sink>(
     ensures write_fault { Counts (is_write_fault result) (S.faults out.old) (S.faults out.new) }
     ensures files { F.contents files.new ≡ F.contents files.old }
 {
-    match read_given(alloc, word, source, files) {
+    match read_given(alloc, word, source, Allowed::AnyNatives, files) {
         Ok(given) => compile_text(alloc, &given.project, given.text.as_slice(), out),
         Err(status) => status,
     }

@@ -12,7 +12,7 @@ ghost use Rattle.aseba_tools.specs.ProjectWord.{AreFirst, known_natives};
 ghost use Rattle.aseba_tools.specs.Written.{NoProgram};
 
 use crate::file::{MOST_TEXT, read_file};
-use crate::project::named_project;
+use crate::project::{Allowed, named_project};
 use crate::status::Status;
 use aseba_compile::{Program, Refusal, compile};
 use aseba_edge::Files;
@@ -27,22 +27,23 @@ pub struct Given {
     pub text: List<u8>,
 }
 
-/// Reads the project that a word names, and then the file of a source.
+/// Reads the project that a word names, with natives that are allowed, and then the file of a source.
 pub fn read_given<F: Files>(
     alloc: Global,
     word: &str,
     source: &str,
+    allowed: Allowed,
     files: &mut F,
 ) -> Result<Given, Status>
-    ensures given { IfOk result (λ given. AreGiven word.now source.now (λ name. option_map (λ files. files name) (F.contents files.old)) given.project given.text) }
+    ensures given { IfOk result (λ given. AreGiven allowed word.now source.now (λ name. option_map (λ files. files name) (F.contents files.old)) given.project given.text) }
     ensures inside { IfOk result (λ given. InsideProject given.project) }
     ensures short { IfOk result (λ given. length given.text ≤ most_text) }
-    ensures natives { IfOk result (λ given. AreFirst given.project.node.natives known_natives) }
-    ensures why { IfErr result (NotGiven word.now source.now (λ name. option_map (λ files. files name) (F.contents files.old))) }
+    ensures natives { IfOk result (λ given. allowed ≡ Allowed.KnownNatives → AreFirst given.project.node.natives known_natives) }
+    ensures why { IfErr result (NotGiven allowed word.now source.now (λ name. option_map (λ files. files name) (F.contents files.old))) }
     ensures read_fault { Counts (is_failed_read result) (F.faults files.old) (F.faults files.new) }
     ensures files { F.contents files.new ≡ F.contents files.old }
 {
-    let project = named_project(alloc, word, files)?;
+    let project = named_project(alloc, word, allowed, files)?;
     let text = read_file(alloc, source, MOST_TEXT, files)?;
     Ok(Given { project, text })
 }

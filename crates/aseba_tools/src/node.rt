@@ -8,8 +8,9 @@ ghost use Rattle.aseba_tools.specs.Dialing.{output_end, polled_end};
 ghost use Rattle.aseba_tools.specs.Joined.{Joined, NodeRan, OfProject, SessionEnded};
 ghost use Rattle.aseba_tools.specs.Outcome.{CountsBoth, is_dial_fault, is_failed_read, is_read_fault, is_write_fault};
 ghost use Rattle.aseba_tools.specs.ProjectWord.{NoProject};
+ghost use Rattle.aseba_tools.specs.declared.project.Allowed.TheVariants.{KnownNatives};
 
-use crate::project::named_project;
+use crate::project::{Allowed, named_project};
 use crate::ran::Ran;
 use crate::status::Status;
 use aseba_edge::{DialFault, Dialer, Files, LinkOut, LinkPoll};
@@ -49,11 +50,11 @@ pub fn node<F: Files, D: Dialer>(
 /// A new node of the project that a word names.
 fn project_node<F: Files>(alloc: Global, word: &str, files: &mut F) -> Result<Node, Status>
     ensures node { IfOk result (λ node. OfProject word.now (option_map (λ files. files word.now) (F.contents files.old)) (λ project. node ≡ new_node project)) }
-    ensures why { IfErr result (NoProject word.now (option_map (λ files. files word.now) (F.contents files.old))) }
+    ensures why { IfErr result (NoProject KnownNatives word.now (option_map (λ files. files word.now) (F.contents files.old))) }
     ensures read_fault { Counts (is_failed_read result) (F.faults files.old) (F.faults files.new) }
     ensures files { F.contents files.new ≡ F.contents files.old }
 {
-    let project = named_project(alloc, word, files)?;
+    let project = named_project(alloc, word, Allowed::KnownNatives, files)?;
     Ok(Node::new(alloc, &project)?)
 }
 

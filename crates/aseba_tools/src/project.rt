@@ -8,7 +8,7 @@ ghost use Rattle.aseba_describe.specs.Defaults as describe;
 ghost use Rattle.aseba_describe.specs.Grammar.{ProjectText};
 ghost use Rattle.aseba_describe.specs.NativeLines.{IsNativeLine};
 ghost use Rattle.aseba_tools.specs.Outcome.{is_failed_read};
-ghost use Rattle.aseba_tools.specs.ProjectWord.{AreFirst, IsFileProject, IsFirstOther, IsProject, IsRunProject, NoFileProject, NoProject, NoTextProject, known_natives};
+ghost use Rattle.aseba_tools.specs.ProjectWord.{AreFirst, IsFileProject, IsFirstOther, IsProject, IsTextProject, NoFileProject, NoProject, NoTextProject, known_natives};
 ghost use Rattle.aseba_tools.specs.ProjectWord as spec;
 
 use crate::file::{MOST_TEXT, read_file};
@@ -20,18 +20,32 @@ use aseba_tree::{Native, Project};
 use aseba_words::Mem;
 use std::alloc::Global;
 
+/// Which natives a project may have.
+#[derive(Debug, Clone, Copy)]
+pub enum Allowed {
+    /// Any, where nothing but words is made for it.
+    AnyNatives,
+    /// The first of the machine's, where it is to run on one.
+    KnownNatives,
+}
+
 /// The project that a word names: the default one, or that of a file's text.
-pub fn named_project<F: Files>(alloc: Global, word: &str, files: &mut F) -> Result<Project, Status>
-    ensures project { IfOk result (IsProject word.now (option_map (λ files. files word.now) (F.contents files.old))) }
+pub fn named_project<F: Files>(
+    alloc: Global,
+    word: &str,
+    allowed: Allowed,
+    files: &mut F,
+) -> Result<Project, Status>
+    ensures project { IfOk result (IsProject allowed word.now (option_map (λ files. files word.now) (F.contents files.old))) }
     ensures inside { IfOk result InsideProject }
-    ensures why { IfErr result (NoProject word.now (option_map (λ files. files word.now) (F.contents files.old))) }
+    ensures why { IfErr result (NoProject allowed word.now (option_map (λ files. files word.now) (F.contents files.old))) }
     ensures read_fault { Counts (is_failed_read result) (F.faults files.old) (F.faults files.new) }
     ensures files { F.contents files.new ≡ F.contents files.old }
 {
     if is_default(word) {
         without_file(alloc)
     } else {
-        file_project(alloc, word, files)
+        file_project(alloc, word, allowed, files)
     }
 }
 
@@ -51,25 +65,33 @@ fn without_file(alloc: Global) -> Result<Project, Status>
 }
 
 /// The project of a file's text.
-fn file_project<F: Files>(alloc: Global, word: &str, files: &mut F) -> Result<Project, Status>
-    ensures project { IfOk result (IsFileProject (option_map (λ files. files word.now) (F.contents files.old))) }
+fn file_project<F: Files>(
+    alloc: Global,
+    word: &str,
+    allowed: Allowed,
+    files: &mut F,
+) -> Result<Project, Status>
+    ensures project { IfOk result (IsFileProject allowed (option_map (λ files. files word.now) (F.contents files.old))) }
     ensures inside { IfOk result InsideProject }
-    ensures why { IfErr result (NoFileProject word.now (option_map (λ files. files word.now) (F.contents files.old))) }
+    ensures why { IfErr result (NoFileProject allowed word.now (option_map (λ files. files word.now) (F.contents files.old))) }
     ensures read_fault { Counts (is_failed_read result) (F.faults files.old) (F.faults files.new) }
     ensures files { F.contents files.new ≡ F.contents files.old }
 {
     let text = read_file(alloc, word, MOST_TEXT, files)?;
-    text_project(alloc, text.as_slice())
+    text_project(alloc, text.as_slice(), allowed)
 }
 
-/// The project that a text spells, if its natives are the machine's.
-fn text_project(alloc: Global, text: &[u8]) -> Result<Project, Status>
-    ensures project { IfOk result (IsRunProject text.now) }
+/// The project that a text spells, if its natives are allowed.
+fn text_project(alloc: Global, text: &[u8], allowed: Allowed) -> Result<Project, Status>
+    ensures project { IfOk result (IsTextProject allowed text.now) }
     ensures inside { IfOk result InsideProject }
-    ensures why { IfErr result (NoTextProject text.now) }
+    ensures why { IfErr result (NoTextProject allowed text.now) }
 {
     match read_project(alloc, text) {
-        Ok(project) => with_natives(alloc, text, project),
+        Ok(project) => match allowed {
+            Allowed::AnyNatives => Ok(project),
+            Allowed::KnownNatives => with_natives(alloc, text, project),
+        },
         Err(ProjectError::Line { n }) => Err(Status::BadProject { line: n }),
         Err(ProjectError::Mem) => Err(Status::Memory),
     }
@@ -78,9 +100,9 @@ fn text_project(alloc: Global, text: &[u8]) -> Result<Project, Status>
 /// The project of a text, if its natives are the machine's.
 fn with_natives(alloc: Global, text: &[u8], project: Project) -> Result<Project, Status>
     requires { ProjectText text.now project }
-    ensures project { IfOk result (IsRunProject text.now) }
+    ensures project { IfOk result (IsTextProject Allowed.KnownNatives text.now) }
     ensures inside { IfOk result InsideProject }
-    ensures why { IfErr result (NoTextProject text.now) }
+    ensures why { IfErr result (NoTextProject Allowed.KnownNatives text.now) }
 {
     match first_unknown(alloc, project.node.natives.as_slice())? {
         None => Ok(project),

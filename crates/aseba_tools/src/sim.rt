@@ -13,6 +13,7 @@ ghost use Rattle.aseba_tools.specs.Simulated.{Ran, Simulated, WithScript};
 use crate::entries::entries_of;
 use crate::file::{MOST_TEXT, read_file};
 use crate::given::{Given, program_of, read_given};
+use crate::project::Allowed;
 use crate::putting::status_of;
 use crate::running::simulate;
 use crate::status::Status;
@@ -37,7 +38,7 @@ pub fn sim<F: Files, S: Sink>(
     ensures write_fault { Counts (is_write_fault result) (S.faults out.old) (S.faults out.new) }
     ensures files { F.contents files.new ≡ F.contents files.old }
 {
-    match read_given(alloc, word, source, files) {
+    match read_given(alloc, word, source, Allowed::KnownNatives, files) {
         Ok(given) => run_given(alloc, &given, script, ticks, files, out),
         Err(status) => status,
     }

@@ -213,3 +213,39 @@ fn a_robot_keeps_away_from_obstacles(rt: HostRuntime) -> Result<(), Fail> {
     assert_eq!(rt; ran.err.bytes(), b"".as_slice());
     Ok(())
 }
+
+/// A node with one native, which isn't the machine's first.
+const OTHER_NATIVE: &str = "node n
+code 100
+vars 10
+stack 4
+id 1
+native math.fill -1 dest 1 value ; fill
+";
+
+#[test]
+fn words_are_made_for_natives_that_the_machine_lacks(rt: HostRuntime) -> Result<(), Fail> {
+    let source = "var a[2]\nvar v\ncall math.fill(a, v)\n";
+    let made = ran_on(
+        rt.alloc(),
+        &["compile", "p", "x.aseba"],
+        OTHER_NATIVE,
+        source,
+    )?;
+    assert_eq!(rt; made.number, 0);
+    assert_eq!(rt;
+        made.out.bytes(),
+        b"code 0003 ffff 0003 2000 0000 2000 0002 1002 c000 0000\n".as_slice()
+    );
+    assert_eq!(rt; made.err.bytes(), b"".as_slice());
+    let ran = ran_on(
+        rt.alloc(),
+        &["sim", "p", "x.aseba", "5"],
+        OTHER_NATIVE,
+        source,
+    )?;
+    assert_eq!(rt; ran.number, 5);
+    assert_eq!(rt; ran.out.bytes(), b"".as_slice());
+    assert_eq!(rt; ran.err.bytes(), b"aseba: project line 6\n".as_slice());
+    Ok(())
+}
