@@ -6,18 +6,6 @@ use std::test::Fail;
 fn what_ticks_send(rt: HostRuntime) -> Result<(), Fail> {
     // Event 2 with the first three cells; then event 3 with none, and the end.
     const SENDS: &str = "0 a001 0700 0000 0300 ffff 0300 02b0 0000 0300 03b0 0000 0000 0000";
-    // A division of 1 by 0.
-    const DIVIDES: &str = "0 a001 0700 0000 0300 ffff 0300 0110 0010 0580 0000";
-    // Cell 2 of two.
-    const LOADS: &str = "0 a001 0700 0000 0300 ffff 0300 0210 0050 0200 0000";
-    // A value too much for the empty stack to give.
-    const TAKES: &str = "0 a001 0700 0000 0300 ffff 0300 0040";
-    // The cell behind the last.
-    const FAR: &str = "0 a001 0700 0000 0300 ffff 0300 5832";
-    // A native that isn't there.
-    const CALLS: &str = "0 a001 0700 0000 0300 ffff 0300 14c0";
-    // A jump past the code.
-    const JUMPS: &str = "0 a001 0700 0000 0300 ffff 0300 7f90";
     let talks = [
         Talk {
             what: "events with their cells",
@@ -62,6 +50,25 @@ fn what_ticks_send(rt: HostRuntime) -> Result<(), Fail> {
             line: "ticks 10",
             said: &["7 0003"],
         },
+    ];
+    all_said(&rt, rt.alloc(), &talks)
+}
+
+#[test]
+fn stops_and_errors(rt: HostRuntime) -> Result<(), Fail> {
+    // A division of 1 by 0.
+    const DIVIDES: &str = "0 a001 0700 0000 0300 ffff 0300 0110 0010 0580 0000";
+    // Cell 2 of two.
+    const LOADS: &str = "0 a001 0700 0000 0300 ffff 0300 0210 0050 0200 0000";
+    // A value too much for the empty stack to give.
+    const TAKES: &str = "0 a001 0700 0000 0300 ffff 0300 0040";
+    // The cell behind the last.
+    const FAR: &str = "0 a001 0700 0000 0300 ffff 0300 5832";
+    // A native that isn't there.
+    const CALLS: &str = "0 a001 0700 0000 0300 ffff 0300 14c0";
+    // A jump past the code.
+    const JUMPS: &str = "0 a001 0700 0000 0300 ffff 0300 7f90";
+    let talks = [
         Talk {
             what: "a division",
             before: &[DIVIDES, "0 a002 0700", "0 a003 0700"],

@@ -46,9 +46,9 @@ const PRESENT: &[u8] = &[2, 0, 1, 0, 0x0C, 0x90, 5, 0];
 fn linked(alloc: Global, script: &Script<'_>) -> Result<MemoryPolledLink, Mem> {
     let mut answers = List::new(alloc);
     for text in script.answers {
-        let answer = match text {
-            b"-" => PollAnswer::Later,
-            _ => PollAnswer::Bytes(List::from_slice(alloc, text)?),
+        let answer = match *text {
+            [b'-'] => PollAnswer::Later,
+            bytes => PollAnswer::Bytes(List::from_slice(alloc, bytes)?),
         };
         answers.push(answer).map_err(|_| Mem)?;
     }
