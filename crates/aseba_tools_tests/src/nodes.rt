@@ -18,16 +18,17 @@ struct Outcome {
 
 /// What a link does: an answer for each text, of which `-` stands for none yet; how many bytes it
 /// takes; and which of its reads, of its puts, and of the dials fail.
-struct Script<'a> {
-    answers: &'a [&'a [u8]],
+#[derive(Clone, Copy, Drop)]
+struct Script {
+    answers: &'static [&'static [u8]],
     room: usize,
-    failing_reads: &'a [u64],
-    failing_puts: &'a [u64],
-    failing_dials: &'a [u64],
+    failing_reads: &'static [u64],
+    failing_puts: &'static [u64],
+    failing_dials: &'static [u64],
 }
 
 /// A link that gives these answers, and never fails.
-fn link<'a>(answers: &'a [&'a [u8]]) -> Script<'a> {
+fn link(answers: &'static [&'static [u8]]) -> Script {
     Script {
         answers,
         room: 1000,
@@ -43,7 +44,7 @@ const LIST: &[u8] = &[2, 0, 0, 0, 0x11, 0xA0, 5, 0];
 const PRESENT: &[u8] = &[2, 0, 1, 0, 0x0C, 0x90, 5, 0];
 
 /// The link of a script, known by the mark 77.
-fn linked(alloc: Global, script: &Script<'_>) -> Result<MemoryPolledLink, Mem> {
+fn linked(alloc: Global, script: &Script) -> Result<MemoryPolledLink, Mem> {
     let mut answers = List::new(alloc);
     for text in script.answers {
         let answer = match *text {
@@ -68,7 +69,7 @@ fn words_of(alloc: Global, line: &str) -> Result<Vec<String>, Mem> {
 }
 
 /// Runs the words of a line over a project `p` and the link of a script.
-fn ran(alloc: Global, line: &str, project: &[u8], script: &Script<'_>) -> Result<Outcome, Mem> {
+fn ran(alloc: Global, line: &str, project: &[u8], script: &Script) -> Result<Outcome, Mem> {
     let words = words_of(alloc, line)?;
     let mut files = List::new(alloc);
     let file = MemoryFile {
@@ -99,12 +100,12 @@ fn has_session(
     rt: &impl Abort,
     alloc: Global,
     line: &str,
-    script: &Script<'_>,
+    script: &Script,
     ending: (u8, &str),
     took: &[u8],
 ) -> Result<(), Fail> {
     let outcome = ran(alloc, line, b"", script)?;
-    assert_eq!(rt; outcome.ran.status.number(), ending.0, "{}", ending.1);
+    assert_eq!(rt; outcome.ran.status.number(), ending.0, "{line}");
     assert_eq!(rt; outcome.told.bytes(), ending.1.as_bytes());
     assert!(rt; outcome.ran.input.is_none());
     let (Some(input), Some(output)) = (&outcome.ran.polled, &outcome.ran.output) else {
@@ -121,11 +122,11 @@ fn has_no_link(
     alloc: Global,
     line: &str,
     project: &[u8],
-    script: &Script<'_>,
+    script: &Script,
     ending: (u8, &str),
 ) -> Result<(), Fail> {
     let outcome = ran(alloc, line, project, script)?;
-    assert_eq!(rt; outcome.ran.status.number(), ending.0, "{}", ending.1);
+    assert_eq!(rt; outcome.ran.status.number(), ending.0, "{line}");
     assert_eq!(rt; outcome.told.bytes(), ending.1.as_bytes());
     assert!(rt; outcome.ran.input.is_none());
     assert!(rt; outcome.ran.polled.is_none());
