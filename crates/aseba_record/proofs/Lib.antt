@@ -1,0 +1,16 @@
+pub mod EventLaws
+pub mod DigitLaws
+pub mod FieldLaws
+pub mod CellWords
+pub mod LastTime
+pub mod Rows
+pub mod CellsRead
+pub mod NameLaws
+pub mod EntryLaws
+pub mod HeadLaws
+pub mod Steps
+pub mod Standing
+pub mod Decided
+pub mod Written
+pub mod Played
+pub mod Formats
