@@ -1,5 +1,5 @@
 -- Texts that are no addresses.
-use Rattle.std.proofs.Common.{◌≡◌, ◌∙◌, ℕ, ◌+◌, ◌&&◌, Bool, true, false, refl, sym, ap, List, [], length, drop, nat_lt, arith, Option, None, Some, decimal}
+use Rattle.std.proofs.Common.{◌≡◌, ◌∙◌, ℕ, ◌+◌, ◌&&◌, Bool, true, false, refl, ap, List, [], length, drop, nat_lt, arith, Option, None, Some}
 use Rattle.std.proofs.lemmas.List.{drop_all}
 use Rattle.std.proofs.lemmas.Fmt.{decimal_nonempty}
 use Rattle.std.specs.Prelude.{is_some}

@@ -2,6 +2,7 @@ pub mod Addresses
 pub mod Alike
 pub mod CallsMade
 pub mod CallsThere
+pub mod Endings
 pub mod Loading
 pub mod NativesKnown
 pub mod Outcomes

@@ -1,5 +1,5 @@
 -- What a status says of a call of `node`: why it came, and what its link gave and took.
-use Rattle.std.specs.Prelude.{◌≡◌, ℕ, ◌⊎◌, List, Option}
+use Rattle.std.specs.Prelude.{ℕ, ◌⊎◌, List, Option}
 use Rattle.aseba_tree.specs.declared.project.Project.{Project}
 use Rattle.aseba_node.specs.NodeState.{NodeState, new_node}
 use Rattle.aseba_node.specs.Session.{Ends, DidAll, MetBadFrame, DidSome, WrotePart}

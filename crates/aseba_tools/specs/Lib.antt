@@ -5,6 +5,7 @@ pub mod Command
 pub mod Dialing
 pub mod DumpText
 pub mod Dumped
+pub mod Ending
 pub mod FileText
 pub mod Given
 pub mod Joined

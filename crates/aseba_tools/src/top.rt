@@ -1,8 +1,9 @@
-ghost use Rattle.std.specs.Prelude.{◌≡◌, false, true, None, map, option_map, string_bytes};
+ghost use Rattle.std.specs.Prelude.{◌≡◌, false, true, None, IsSomeAnd, map, option_map, string_bytes};
 ghost use Rattle.std.specs.Option.{option_map_or};
 ghost use Rattle.aseba_edge.specs.Counts.{Counts};
 ghost use Rattle.aseba_tools.specs.Command.{Did, command_of, may_dial_for, names_no_tool};
 ghost use Rattle.aseba_tools.specs.Dialing.{output_end, polled_end};
+ghost use Rattle.aseba_tools.specs.Ending.{EndsWell, IsRight, Stayed};
 ghost use Rattle.aseba_tools.specs.Outcome.{CountsBoth, MessagePut, is_dial_fault, is_read_fault, is_write_fault};
 ghost use Rattle.aseba_tools.specs.StatusText.{message_of};
 
@@ -18,7 +19,8 @@ use std::alloc::Global;
 /// `compile PROJECT SOURCE` and `dump FILE --raw`, which ask neither the dialer nor the clock for
 /// anything, and `node PROJECT tcp:HOST:PORT TURNS`, which asks the dialer once for a polled link to
 /// `HOST:PORT` and gives it back as it is at the end. Words that are no command of these are `Usage`;
-/// `Memory` may come wherever memory is taken, also to read words.
+/// `Memory` may come wherever memory is taken, also to read words. Where the files, the source and what
+/// a link gives are right, and nothing of the outside fails, no other status than `Done` comes beside it.
 pub fn run<F: Files, D: Dialer, S: Sink, E: Sink, C: Clock>(
     alloc: Global,
     words: &[String],
@@ -48,6 +50,9 @@ pub fn run<F: Files, D: Dialer, S: Sink, E: Sink, C: Clock>(
     ensures dialer { may_dial_for (command_of (map string_bytes words.now)) ≡ false → dialer.new ≡ dialer.old }
     ensures told { MessagePut (E.taken err.old) (message_of result.status) (E.taken err.new) (E.faults err.old) (E.faults err.new) }
     ensures clock { clock.new ≡ clock.old }
+    ensures ends_well { IsSomeAnd (command_of (map string_bytes words.now)) (λ command. IsRight command (λ name. option_map (λ files. files name) (F.contents files.old)) (option_map (λ input. polled_end (D.Poll.mark input) (D.Poll.contents input)) result.polled))
+        → Stayed (F.faults files.old) (F.faults files.new) → Stayed (S.faults out.old) (S.faults out.new) → Stayed (D.faults dialer.old) (D.faults dialer.new)
+        → Stayed 0 (option_map_or D.Poll.faults result.polled 0) → Stayed 0 (option_map_or D.Out.faults result.output 0) → EndsWell result.status }
 {
     let ran = do_tool(alloc, words, files, dialer, out);
     tell(&ran.status, err);
