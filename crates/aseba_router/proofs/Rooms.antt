@@ -10,7 +10,8 @@ use Rattle.aseba_router.specs.Routed.{IsRoomy, Table}
 use Rattle.aseba_router.specs.Rows.{port_at}
 use Rattle.aseba_router.specs.Shown.{put}
 
-unused-at : (n p : ℕ) → port_at (replicate n unused) p ≡ unused
+-- a port of a table that was just made
+pub unused-at : (n p : ℕ) → port_at (replicate n unused) p ≡ unused
 unused-at zero p = refl
 unused-at (suc n) zero = refl
 unused-at (suc n) (suc p) = unused-at n p

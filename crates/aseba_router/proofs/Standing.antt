@@ -32,6 +32,7 @@ pub record Stands (echo : Bool) (p : ℕ) (deeds : List Deed) (port : Port) (lis
   pub last : Option Session
   pub sessions : joined p (items deeds) ≡ past ++ one last
   pub gone : AllByRecursion (λ s. inside s (items deeds) ≡ false) past
+  pub first : last ≡ None → past ≡ []
   pub last_at : IsAt p last
   pub past_at : AllByRecursion (λ s. s.port ≡ p) past
   pub session : port.session ≡ is_in last (items deeds)
@@ -39,7 +40,7 @@ pub record Stands (echo : Bool) (p : ℕ) (deeds : List Deed) (port : Port) (lis
   pub shares : list ++ ends port.waiting ≡ told echo p deeds
 
 pub stands-nothing : (echo : Bool) (p : ℕ) → Stands echo p [] unused []
-stands-nothing echo p = record { past = []; last = None; sessions = refl; gone = tt; last_at = tt; past_at = tt; session = refl; full = refl; shares = refl }
+stands-nothing echo p = record { past = []; last = None; sessions = refl; gone = tt; first = λ e. refl; last_at = tt; past_at = tt; session = refl; full = refl; shares = refl }
 
 -- what a list gains by an entry, with what waits behind it
 abbrev pub gain : Option Put → Bool → List Put

@@ -1,10 +1,16 @@
+pub mod Ends
 pub mod Handed
 pub mod Hub
 pub mod Left
 pub mod Memory
+pub mod Middle
 pub mod Port
 pub mod Queue
+pub mod Pieces
+pub mod Relayed
 pub mod Routed
 pub mod Rows
 pub mod Shown
+pub mod Taken
 pub mod Told
+pub mod Turns
