@@ -1,7 +1,6 @@
 //! Random lists of items, with pops and tries between them. What each port's sessions get is
 //! compared with what they are owed, as a plain program computes it from the list.
-ghost use Rattle.std.specs.Prelude.{◌<◌};
-
+use crate::dice::Dice;
 use crate::hub::Hub;
 use aseba_router::Session;
 use aseba_words::Mem;
@@ -10,25 +9,6 @@ use std::test::Fail;
 
 /// How many ports the hubs have.
 const PORTS: u16 = 3;
-
-/// A generator of numbers, always the same ones.
-#[derive(Drop)]
-struct Dice {
-    state: u64,
-}
-
-impl Dice {
-    fn below(&mut self, bound: u64) -> u64
-        requires { 0 < bound }
-        ensures { result < bound }
-    {
-        self.state = self
-            .state
-            .wrapping_mul(6_364_136_223_846_793_005)
-            .wrapping_add(1_442_695_040_888_963_407);
-        (self.state >> 33) % bound
-    }
-}
 
 /// What happened, in order.
 #[derive(Clone, Copy, Drop)]
@@ -213,7 +193,7 @@ fn turn(alloc: Global, game: &mut Game, dice: &mut Dice, kind: u16) -> Result<()
 
 /// Whether all is as owed behind so many turns.
 fn plays(alloc: Global, seed: u64) -> Result<bool, Mem> {
-    let mut dice = Dice { state: seed };
+    let mut dice = Dice::new(seed);
     let queue = dice.below(4) as u32;
     let echo = dice.below(2) == 1;
     let mut game = Game::new(alloc, queue.saturating_add(1), echo)?;
