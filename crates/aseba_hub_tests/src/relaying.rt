@@ -20,6 +20,17 @@ fn link(alloc: Global, mark: u64, bytes: &[u8]) -> Result<(MemoryIn, MemoryOut),
 /// Three frames of the kinds 0, 1 and 2, with nothing in them.
 const THREE: [u8; 18] = [0, 0, 1, 0, 0, 0, 0, 0, 1, 0, 1, 0, 0, 0, 1, 0, 2, 0];
 
+/// A frame without a payload.
+const ONE: [u8; 6] = [0, 0, 1, 0, 0, 0];
+
+/// Two links, of which the first says a frame.
+fn two_links(alloc: Global) -> Result<List<(MemoryIn, MemoryOut)>, Mem> {
+    let mut links = List::new(alloc);
+    links.add(link(alloc, 0, &ONE)?)?;
+    links.add(link(alloc, 1, &[])?)?;
+    Ok(links)
+}
+
 /// Three links, of which the first says three frames.
 fn three_links(alloc: Global) -> Result<List<(MemoryIn, MemoryOut)>, Mem> {
     let mut links = List::new(alloc);
@@ -111,10 +122,6 @@ fn an_end_that_came_back_is_told(rt: HostRuntime) -> Result<(), Fail> {
         echo: false,
         sessions: 0,
     };
-    let said = [0, 0, 1, 0, 0, 0];
-    let mut links = List::new(alloc);
-    links.add(link(alloc, 0, &said)?)?;
-    links.add(link(alloc, 1, &[])?)?;
     let turns = [
         Turn::Open(0),
         Turn::Route,
@@ -127,10 +134,10 @@ fn an_end_that_came_back_is_told(rt: HostRuntime) -> Result<(), Fail> {
         Turn::Write(1),
         Turn::Write(1),
     ];
-    let Relay { items, links, full } = relay(alloc, &config, links, &turns)?;
+    let Relay { items, links, full } = relay(alloc, &config, two_links(alloc)?, &turns)?;
     assert_eq!(rt; items.as_slice().len(), 4);
     assert_eq!(rt; full.as_slice(), [None, Some(3)].as_slice());
     assert_eq!(rt; links.as_slice()[0].1.bytes(), [].as_slice());
-    assert_eq!(rt; links.as_slice()[1].1.bytes(), said.as_slice());
+    assert_eq!(rt; links.as_slice()[1].1.bytes(), ONE.as_slice());
     Ok(())
 }

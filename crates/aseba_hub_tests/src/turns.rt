@@ -25,8 +25,9 @@ fn spelled(kind: u16) -> [u8; 6] {
 /// that no frame has.
 fn said(alloc: Global, dice: &mut Dice, link: u16) -> Result<Vec<u8>, Mem> {
     let mut bytes = Vec::new(alloc);
+    let [link, _] = link.to_le_bytes();
     for nth in 0..dice.below(8) {
-        let kind = u16::from_le_bytes([nth as u8, link as u8]);
+        let kind = u16::from_le_bytes([nth as u8, link]);
         bytes.extend_from_slice(spelled(kind).as_slice())?;
     }
     match dice.below(3) {
@@ -126,10 +127,10 @@ fn is_owed<I>(alloc: Global, relay: &Relay<I, MemoryOut>, echo: bool) -> Result<
     let links = relay.links.as_slice().iter();
     let full = relay.full.as_slice().iter();
     for (port, (link, full)) in links.zip(full).enumerate() {
-        let session = Session {
-            port: port as u16,
-            nth: 0,
+        let Ok(port) = u16::try_from(port) else {
+            return Ok(false);
         };
+        let session = Session { port, nth: 0 };
         let bytes = owed(alloc, relay.items.as_slice(), session, *full, echo)?;
         if link.1.bytes() != bytes.as_slice() {
             return Ok(false);
@@ -164,12 +165,12 @@ fn play(alloc: Global, seed: u64) -> Result<Played, Mem> {
 
 #[test]
 fn random_turns_give_what_is_owed(rt: HostRuntime) -> Result<(), Fail> {
-    let mut drops = 0;
+    let mut drops: u32 = 0;
     for seed in 0..3_000 {
         let played = play(rt.alloc(), seed)?;
         assert!(rt; played.is_owed, "turns {seed}");
         if played.was_dropped {
-            drops += 1;
+            drops = drops.saturating_add(1);
         }
     }
     assert!(rt; drops > 500);
